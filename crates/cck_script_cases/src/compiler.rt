@@ -32,12 +32,14 @@ pub(crate) fn write(
     let made = MiniCompiler {
         zone_offset: given_files.zone,
     };
-    let compiler = made.copy(alloc).map_err(|_| UtilError::Memory)?;
-    match call {
-        CompilerCall::Facts => Ok(write_facts(alloc, out, &compiler)?),
-        CompilerCall::CommandLine => write_arguments(alloc, out, &compiler, cwd, rest),
-        CompilerCall::Preprocess => write_preprocessed(out, given_files, &compiler, cwd, rest),
+    let Ok(compiler) = made.copy(alloc) else {
+        return Err(CaseError::Util(UtilError::Memory));
+    };
+    if let CompilerCall::Facts = call {
+        return Ok(write_facts(alloc, out, &compiler)?);
     }
+    let arguments = parsed_as(alloc, &compiler, cwd, rest)?;
+    write_arguments(call, out, given_files, &compiler, &arguments, cwd)
 }
 
 // What the compiler says of the command line of this text.
@@ -54,40 +56,24 @@ fn parsed_as(
     }
 }
 
+// Writes a command line, or what is printed for it where it is a compilation.
 fn write_arguments(
-    alloc: Global,
-    out: &mut Vec<u8>,
-    compiler: &MiniCompiler,
-    cwd: &[u8],
-    rest: &str,
-) -> Result<(), CaseError> {
-    match parsed_as(alloc, compiler, cwd, rest)? {
-        CompilerArguments::Ok(parsed) => Ok(write_parsed(alloc, out, &parsed)?),
-        other => Ok(out.extend_from_slice(word_of(&other).as_bytes())?),
-    }
-}
-
-// Which command line it is.
-fn word_of(arguments: &CompilerArguments<ParsedArguments>) -> &'static str {
-    match arguments {
-        CompilerArguments::Ok(_) => "Ok",
-        CompilerArguments::NotCompilation => "NotCompilation",
-        CompilerArguments::CannotCache(_, _) => "CannotCache",
-    }
-}
-
-// Writes what is printed for a compilation.
-fn write_preprocessed(
+    call: CompilerCall,
     out: &mut Vec<u8>,
     given_files: &mut GivenFiles,
     compiler: &MiniCompiler,
+    arguments: &CompilerArguments<ParsedArguments>,
     cwd: &[u8],
-    rest: &str,
 ) -> Result<(), CaseError> {
-    match parsed_as(given_files.alloc, compiler, cwd, rest)? {
-        CompilerArguments::Ok(parsed) => write_printed(out, given_files, compiler, &parsed, cwd),
-        other => Ok(out.extend_from_slice(word_of(&other).as_bytes())?),
+    let parsed = match arguments {
+        CompilerArguments::Ok(parsed) => parsed,
+        CompilerArguments::NotCompilation => return Ok(out.extend_from_slice(b"NotCompilation")?),
+        CompilerArguments::CannotCache(_, _) => return Ok(out.extend_from_slice(b"CannotCache")?),
+    };
+    if let CompilerCall::Preprocess = call {
+        return write_printed(out, given_files, compiler, parsed, cwd);
     }
+    Ok(write_parsed(given_files.alloc, out, parsed)?)
 }
 
 fn write_facts(
@@ -96,11 +82,19 @@ fn write_facts(
     compiler: &MiniCompiler,
 ) -> Result<(), AllocError> {
     let (kind, plusplus) = (compiler.kind(), compiler.plusplus());
-    let (version, assembler) = (compiler.version(), compiler.assembler_digest());
-    let text = format!(in alloc;
-        "{kind:?}, plusplus {plusplus}, version {version:?}, assembler {assembler:?}"
-    )?;
-    out.extend_from_slice(text.as_bytes())
+    let text = format!(in alloc; "{kind:?}, plusplus {plusplus}")?;
+    out.extend_from_slice(text.as_bytes())?;
+    write_optional(alloc, out, ", version ", compiler.version())?;
+    write_optional(alloc, out, ", assembler ", compiler.assembler_digest())
+}
+
+fn write_optional(
+    alloc: Global,
+    out: &mut Vec<u8>,
+    text: &str,
+    value: Option<&str>,
+) -> Result<(), AllocError> {
+    out.extend_from_slice(format!(in alloc; "{text}{value:?}")?.as_bytes())
 }
 
 fn write_parsed(
@@ -114,12 +108,21 @@ fn write_parsed(
     out.extend_from_slice(parsed.language.as_str().as_bytes())?;
     out.extend_from_slice(b"\ncommon")?;
     write_list(out, &parsed.common_args)?;
+    write_outputs(alloc, out, parsed)?;
+    if has_others(parsed) {
+        out.extend_from_slice(b"\nothers")?;
+    }
+    Ok(())
+}
+
+fn write_outputs(
+    alloc: Global,
+    out: &mut Vec<u8>,
+    parsed: &ParsedArguments,
+) -> Result<(), AllocError> {
     for (name, output) in parsed.outputs.iter() {
         out.extend_from_slice(format!(in alloc; "\noutput {name}")?.as_bytes())?;
         write_bracketed(out, &output.path)?;
-    }
-    if has_others(parsed) {
-        out.extend_from_slice(b"\nothers")?;
     }
     Ok(())
 }
@@ -160,21 +163,22 @@ fn write_printed(
     parsed: &ParsedArguments,
     cwd: &[u8],
 ) -> Result<(), CaseError> {
-    let (alloc, moment) = (given_files.alloc, given_files.moment);
-    let printed = compiler.preprocess(
-        alloc,
-        &mut given_files.files,
-        b"/cc",
-        parsed,
-        cwd,
-        &[],
-        moment,
-    );
-    match printed {
+    match printed_of(given_files, compiler, parsed, cwd) {
         Ok(text) => Ok(out.extend_from_slice(&text)?),
         Err(PreprocessError::Memory) => Err(CaseError::Util(UtilError::Memory)),
-        Err(error) => Ok(write_error(alloc, out, error)?),
+        Err(error) => Ok(write_error(given_files.alloc, out, error)?),
     }
+}
+
+fn printed_of(
+    given_files: &mut GivenFiles,
+    compiler: &MiniCompiler,
+    parsed: &ParsedArguments,
+    cwd: &[u8],
+) -> Result<Vec<u8>, PreprocessError> {
+    let (alloc, moment) = (given_files.alloc, given_files.moment);
+    let files = &mut given_files.files;
+    compiler.preprocess(alloc, files, b"/cc", parsed, cwd, &[], moment)
 }
 
 fn write_error(alloc: Global, out: &mut Vec<u8>, error: PreprocessError) -> Result<(), AllocError> {

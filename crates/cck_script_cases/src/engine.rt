@@ -1,6 +1,7 @@
 //! The program as a function.
+use crate::commands::write_number;
 use crate::streams::Streams;
-use cck_cases::{CaseError, words_of};
+use cck_cases::{CaseError, FailReader, FailWriter, words_of};
 use cck_command::{Status, engine, refuse};
 use cck_util::Sha256State;
 use std::alloc::{AllocError, Global};
@@ -27,19 +28,18 @@ pub(crate) fn write(
     text: &[u8],
     rest: &str,
 ) -> Result<(), CaseError> {
-    match call {
-        EngineCall::Run => write_run(alloc, out, streams, text, &strings_of(alloc, "run")?),
-        EngineCall::Program => write_run(alloc, out, streams, text, &strings_of(alloc, rest)?),
-        EngineCall::Refuse => write_refusal(alloc, out, streams),
-    }
+    let words = match call {
+        EngineCall::Run => "run",
+        EngineCall::Program => rest,
+        EngineCall::Refuse => return write_refusal(alloc, out, streams),
+    };
+    write_run(alloc, out, streams, text, &strings_of(alloc, words)?)
 }
 
 fn write_refusal(alloc: Global, out: &mut Vec<u8>, streams: &Streams) -> Result<(), CaseError> {
     let mut writer = streams.writer()?;
     let status = refuse(&mut writer);
-    out.extend_from_slice(&writer.written)?;
-    write_status(alloc, out, status)?;
-    Ok(write_flush(out, writer.is_flushed)?)
+    Ok(write_ended(alloc, out, &writer, status, 0)?)
 }
 
 fn write_run(
@@ -51,36 +51,44 @@ fn write_run(
 ) -> Result<(), CaseError> {
     let mut reader = streams.reader(text);
     let mut writer = streams.writer()?;
-    let status = engine::<Sha256State, _, _>(alloc, words, &mut reader, &mut writer);
-    out.extend_from_slice(&writer.written)?;
-    write_status(alloc, out, status)?;
-    if !reader.bytes.is_empty() {
-        write_unread(alloc, out, reader.bytes.len())?;
-    }
-    Ok(write_flush(out, writer.is_flushed)?)
+    let status = run_words(alloc, words, &mut reader, &mut writer);
+    Ok(write_ended(alloc, out, &writer, status, reader.bytes.len())?)
 }
 
-fn write_flush(out: &mut Vec<u8>, is_flushed: bool) -> Result<(), AllocError> {
-    if is_flushed {
+/// Runs the program over these words and streams.
+pub(crate) fn run_words(
+    alloc: Global,
+    words: &[String],
+    reader: &mut FailReader<'_>,
+    writer: &mut FailWriter,
+) -> Status {
+    engine::<Sha256State, _, _>(alloc, words, reader, writer)
+}
+
+// Writes what a run printed, and after it the status, and how many bytes it left unread.
+fn write_ended(
+    alloc: Global,
+    out: &mut Vec<u8>,
+    writer: &FailWriter,
+    status: Status,
+    unread: usize,
+) -> Result<(), AllocError> {
+    out.extend_from_slice(&writer.written)?;
+    write_number(alloc, out, "status ", u64::from(status.code()))?;
+    if unread > 0 {
+        write_number(alloc, out, " unread ", unread as u64)?;
+    }
+    if writer.is_flushed {
         return Ok(());
     }
     out.extend_from_slice(b" unflushed")
 }
 
-fn write_status(alloc: Global, out: &mut Vec<u8>, status: Status) -> Result<(), AllocError> {
-    let code = status.code();
-    out.extend_from_slice(format!(in alloc; "status {code}")?.as_bytes())
-}
-
-fn write_unread(alloc: Global, out: &mut Vec<u8>, count: usize) -> Result<(), AllocError> {
-    out.extend_from_slice(format!(in alloc; " unread {count}")?.as_bytes())
-}
-
-// The words of a command line.
-fn strings_of(alloc: Global, rest: &str) -> Result<Vec<String>, CaseError> {
+/// The words of a command line.
+pub(crate) fn strings_of(alloc: Global, rest: &str) -> Result<Vec<String>, CaseError> {
     let mut strings = Vec::new(alloc);
-    for word in words_of(alloc, rest)? {
-        match str::from_utf8(&word) {
+    for word in &words_of(alloc, rest)? {
+        match str::from_utf8(word) {
             Ok(text) => strings.push(String::from_str(alloc, text)?)?,
             Err(_) => return Err(CaseError::Line),
         }

@@ -1,9 +1,9 @@
 //! The calls of a script as a list, and failures among them.
 use crate::broken_streams::{self, Broken};
 use crate::failures::{self, FailureCause};
-use crate::lists::{CallResult, List, write_call_result};
+use crate::lists::{List, write_call_result};
 use crate::streams::Streams;
-use cck_cases::{CaseError, end_line};
+use cck_cases::{CaseError, end_line, find};
 use std::alloc::Global;
 
 #[derive(Clone, Copy)]
@@ -20,6 +20,20 @@ pub(crate) const CALLS: [(&str, ListCall); 4] = [
     ("checked_results", ListCall::Checked),
     ("fail_each", ListCall::FailEach),
 ];
+
+const CAUSES: [(&str, FailureCause); 3] = [
+    ("files", FailureCause::Files),
+    ("store", FailureCause::Store),
+    ("forget", FailureCause::Forgetting),
+];
+
+const BROKEN: [(&str, Broken); 3] = [
+    ("reads", Broken::Reads),
+    ("writes", Broken::Writes),
+    ("flushes", Broken::Flushes),
+];
+
+const ONCE: [(&str, bool); 2] = [("once", true), ("on", false)];
 
 /// What lines give to a list of calls.
 #[derive(Clone, Copy)]
@@ -51,13 +65,23 @@ pub(crate) fn write(
     if given.other_results > 0 {
         list.hold_entry(given.other_results, given.path)?;
     }
+    write_of_list(call, &list, out, given.store_fail_after, rest)
+}
+
+fn write_of_list(
+    call: ListCall,
+    list: &List,
+    out: &mut Vec<u8>,
+    fail_after: u64,
+    rest: &str,
+) -> Result<(), CaseError> {
     match call {
-        ListCall::PlainKeys => write_plain_keys(&list, out),
-        ListCall::Results => write_results(&list, out, given.store_fail_after),
-        ListCall::Checked => failures::write_checked(&list, out),
+        ListCall::PlainKeys => write_plain_keys(list, out),
+        ListCall::Results => write_results(list, out, fail_after),
+        ListCall::Checked => failures::write_checked(list, out),
         ListCall::FailEach => {
             let (cause, is_once) = cause_of(rest).ok_or(CaseError::Line)?;
-            failures::write(&list, out, cause, is_once)
+            failures::write(list, out, cause, is_once)
         }
     }
 }
@@ -75,10 +99,9 @@ fn write_plain_keys(list: &List, out: &mut Vec<u8>) -> Result<(), CaseError> {
 fn write_results(list: &List, out: &mut Vec<u8>, fail_after: u64) -> Result<(), CaseError> {
     let mut store = list.store()?;
     store.fail_after(fail_after);
-    let call_results: Vec<CallResult> = list.make_all(&mut store, &mut list.calls()?)?;
-    for call_result in &call_results {
+    for call_result in list.make_each(&mut store)? {
         end_line(out)?;
-        write_call_result(list.alloc, out, call_result)?;
+        write_call_result(list.alloc, out, &call_result)?;
     }
     Ok(())
 }
@@ -86,31 +109,11 @@ fn write_results(list: &List, out: &mut Vec<u8>, fail_after: u64) -> Result<(), 
 // `CAUSE once` and `CAUSE on`: a cause, and whether one call alone fails.
 fn cause_of(rest: &str) -> Option<(FailureCause, bool)> {
     let (cause, how) = rest.split_once(' ')?;
-    let cause = match cause {
-        "files" => FailureCause::Files,
-        "store" => FailureCause::Store,
-        "forget" => FailureCause::Forgetting,
-        _ => return None,
-    };
-    Some((cause, is_once(how)?))
+    Some((find(&CAUSES, cause)?, find(&ONCE, how)?))
 }
 
 // The same of the reader and the writer of `cck run`.
 fn broken_of(rest: &str) -> Option<(Broken, bool)> {
     let (cause, how) = rest.split_once(' ')?;
-    let broken = match cause {
-        "reads" => Broken::Reads,
-        "writes" => Broken::Writes,
-        "flushes" => Broken::Flushes,
-        _ => return None,
-    };
-    Some((broken, is_once(how)?))
-}
-
-fn is_once(how: &str) -> Option<bool> {
-    match how {
-        "once" => Some(true),
-        "on" => Some(false),
-        _ => None,
-    }
+    Some((find(&BROKEN, cause)?, find(&ONCE, how)?))
 }

@@ -1,14 +1,15 @@
 //! Each failure of one cause in turn, over the calls of a script.
+use crate::commands::write_number;
 use crate::lists::{
     Alone, CallResult, List, MiniCall, hold, is_held_alike, keys_of, write_call_result,
 };
 use c_cache_keys::{HashResult, KeyError, MapStore, PreprocessError};
 use cck_cases::CaseError;
 use cck_util::{Digest, FileError, Sha256State, UtilError};
-use std::alloc::Global;
+use std::alloc::{AllocError, Global};
 
 /// What fails: calls on files, or gets and puts, of which each may forget too.
-#[derive(Debug, Clone, Copy, PartialEq, Eq)]
+#[derive(Clone, Copy, PartialEq, Eq)]
 pub(crate) enum FailureCause {
     Files,
     Store,
@@ -17,7 +18,7 @@ pub(crate) enum FailureCause {
 
 /// One failure: the nth call on the files of the call at a place, or the nth get or put, once or
 /// with all later ones.
-#[derive(Debug, Clone, Copy)]
+#[derive(Clone, Copy)]
 struct Failure {
     cause: FailureCause,
     is_once: bool,
@@ -26,7 +27,7 @@ struct Failure {
 }
 
 // How many calls on its own files a call made, and how many gets and puts came before it and with it.
-#[derive(Debug, Clone, Copy)]
+#[derive(Clone, Copy)]
 struct Counts {
     files: u64,
     store_before: u64,
@@ -113,62 +114,74 @@ fn is_same(one: &HashResult, other: &HashResult) -> bool {
     one.key == other.key && one.is_locally_preprocessed == other.is_locally_preprocessed
 }
 
-/// What was seen over all runs.
-#[derive(Drop)]
-struct FailureCounts {
+// What was seen over all runs.
+#[derive(Clone, Copy)]
+struct Tally {
     runs: u64,
     hits: u64,
     misses: u64,
     errors: [u64; 8],
     wrong: u64,
+}
+
+// What was seen over all runs, and the digest of their results and stores.
+#[derive(Drop)]
+struct Seen {
+    tally: Tally,
     digest: Digest<Sha256State>,
 }
 
-fn one_more(count: &mut u64) {
-    *count = count.saturating_add(1);
-}
-
-impl FailureCounts {
-    fn new() -> FailureCounts {
-        FailureCounts {
+impl Tally {
+    fn new() -> Tally {
+        Tally {
             runs: 0,
             hits: 0,
             misses: 0,
             errors: [0; 8],
             wrong: 0,
-            digest: Digest::new(),
         }
     }
 
     fn note(&mut self, call_result: &CallResult, is_right: bool) {
         match call_result {
-            Ok(found) if found.is_locally_preprocessed => one_more(&mut self.misses),
-            Ok(_) => one_more(&mut self.hits),
-            Err(error) => {
-                let number = error.number() as usize;
-                if number < self.errors.len() {
-                    one_more(&mut self.errors[number]);
-                }
-            }
+            Ok(found) => self.note_key(found.is_locally_preprocessed),
+            Err(error) => self.note_error(error.number() as usize),
         }
-        if !is_right {
-            one_more(&mut self.wrong);
+        self.note_wrong(!is_right);
+    }
+
+    fn note_key(&mut self, is_miss: bool) {
+        if is_miss {
+            self.misses = self.misses.saturating_add(1);
+        } else {
+            self.hits = self.hits.saturating_add(1);
         }
     }
 
-    fn write(self, alloc: Global, out: &mut Vec<u8>) -> Result<(), CaseError> {
-        let (runs, hits, misses) = (self.runs, self.hits, self.misses);
-        let text = format!(in alloc; "{runs} failures: {hits} hits, {misses} misses")?;
-        out.extend_from_slice(text.as_bytes())?;
+    fn note_error(&mut self, number: usize) {
+        if number < self.errors.len() {
+            self.errors[number] = self.errors[number].saturating_add(1);
+        }
+    }
+
+    fn note_wrong(&mut self, is_wrong: bool) {
+        if is_wrong {
+            self.wrong = self.wrong.saturating_add(1);
+        }
+    }
+
+    fn write(&self, alloc: Global, out: &mut Vec<u8>) -> Result<(), AllocError> {
+        write_number(alloc, out, "", self.runs)?;
+        write_number(alloc, out, " failures: ", self.hits)?;
+        write_number(alloc, out, " hits, ", self.misses)?;
+        out.extend_from_slice(b" misses")?;
         for (number, count) in self.errors.iter().enumerate() {
             if *count > 0 {
-                let text = format!(in alloc; ", {count} of error {number}")?;
-                out.extend_from_slice(text.as_bytes())?;
+                write_number(alloc, out, ", ", *count)?;
+                write_number(alloc, out, " of error ", number as u64)?;
             }
         }
-        let wrong = self.wrong;
-        out.extend_from_slice(format!(in alloc; "\nwrong: {wrong}\n")?.as_bytes())?;
-        Ok(out.extend_from_slice(self.digest.finish(alloc)?.as_bytes())?)
+        Ok(())
     }
 }
 
@@ -185,39 +198,78 @@ struct Run<'a> {
     store_first: u64,
     // Whether the first call that is to fail came.
     has_met: bool,
+    // What was seen over all runs before, and over this one.
+    tally: Tally,
 }
 
 impl Run<'_> {
-    // Makes the call at a place, and says whether its result and what is held afterwards are right.
-    fn make(&mut self, place: usize, mut call: MiniCall) -> Result<(CallResult, bool), CaseError> {
-        let alloc = self.list.alloc;
-        let mut before = disarmed(alloc, self.alone, &self.store)?;
-        let store_before = self.store.calls();
+    // Makes the call at a place, and notes whether its result and what is held afterwards are right.
+    fn make(&mut self, place: usize) -> Result<(), CaseError> {
+        let mut call = self.list.copy(place)?;
         self.failure.arm_files(&mut call, place);
-        let (call_result, files) = self.list.make(&mut self.store, call)?;
+        let mut before = disarmed(self.list.alloc, self.alone, &self.store)?;
+        self.make_armed(place, &mut call, &mut before)
+    }
+
+    // The same, by the armed copy of the call, where the store held before what this one holds.
+    fn make_armed(
+        &mut self,
+        place: usize,
+        call: &mut MiniCall,
+        before: &mut MapStore,
+    ) -> Result<(), CaseError> {
+        let store_before = self.store.calls();
+        let call_result = self.list.make(&mut self.store, call)?;
         let counts = Counts {
-            files,
+            files: call.files.calls(),
             store_before: store_before.saturating_sub(self.store_first),
             store_after: self.store.calls().saturating_sub(self.store_first),
         };
-        write_call_result(alloc, &mut self.text, &call_result)?;
+        self.take_in(place, before, counts, &call_result)
+    }
+
+    // Writes a result, and notes whether it is right.
+    fn take_in(
+        &mut self,
+        place: usize,
+        before: &mut MapStore,
+        counts: Counts,
+        call_result: &CallResult,
+    ) -> Result<(), CaseError> {
+        write_call_result(self.list.alloc, &mut self.text, call_result)?;
         self.text.push(b'\n')?;
-        if !self.failure.is_met(place, counts) {
-            let (expected, _) = self.list.make(&mut before, self.list.call(place)?)?;
-            let is_right = same_result(&expected, &call_result)
-                && hold_alike(self.alone, &before, &self.store);
-            return Ok((call_result, is_right));
-        }
+        let is_right = if self.failure.is_met(place, counts) {
+            self.is_met_right(place, call_result)?
+        } else {
+            self.is_unmet_right(place, before, call_result)?
+        };
+        self.tally.note(call_result, is_right);
+        Ok(())
+    }
+
+    // Whether a result is the one that the call has on the store as it was before.
+    fn is_unmet_right(
+        &self,
+        place: usize,
+        before: &mut MapStore,
+        call_result: &CallResult,
+    ) -> Result<bool, CaseError> {
+        let mut call = self.list.copy(place)?;
+        let expected = self.list.make(before, &mut call)?;
+        Ok(same_result(&expected, call_result) && hold_alike(self.alone, before, &self.store))
+    }
+
+    // Whether the failure that a call met allows its result and what is held.
+    fn is_met_right(&mut self, place: usize, call_result: &CallResult) -> Result<bool, CaseError> {
         self.has_met = self.has_met
             || self.failure.cause != FailureCause::Files
             || place == self.failure.place;
-        let Some(alone) = self.alone.get(place) else {
-            return Err(CaseError::Line);
-        };
+        let alone = self.alone.get(place).ok_or(CaseError::Line)?;
         let made = place.saturating_add(1).min(self.alone.len());
-        let is_right = self.failure.allows(&alone.call_result, &call_result)
-            && self.holds_own(&self.alone[..made]);
-        Ok((call_result, is_right))
+        Ok(
+            self.failure.allows(&alone.call_result, call_result)
+                && self.holds_own(&self.alone[..made]),
+        )
     }
 
     // Whether each pair that is held under the keys of all calls is the own pair of one that was made,
@@ -232,6 +284,19 @@ impl Run<'_> {
             }
         }
         true
+    }
+
+    // Counts this run, and notes what the store holds after it.
+    fn count(&self, seen: &mut Seen) -> Result<(), CaseError> {
+        let store = &self.store;
+        let is_right = holds_own_alone(self.list, store, self.alone)?;
+        seen.tally = self.tally;
+        seen.tally.note_wrong(!is_right);
+        seen.tally.runs = seen.tally.runs.saturating_add(1);
+        seen.digest.update(&self.text);
+        seen.digest
+            .update(format!(in self.list.alloc; "{store:?}\n")?.as_bytes());
+        Ok(())
     }
 }
 
@@ -280,46 +345,78 @@ fn holds_own_alone(list: &List, store: &MapStore, each: &[Alone]) -> Result<bool
     Ok(true)
 }
 
+// A run that begins, under one failure, after others of which this was seen.
+fn run_of<'a>(
+    list: &'a List,
+    alone: &'a [Alone],
+    failure: Failure,
+    tally: Tally,
+) -> Result<Run<'a>, CaseError> {
+    let mut store = list.first_store()?;
+    let store_first = store.calls();
+    failure.arm_store(&mut store);
+    Ok(Run {
+        list,
+        alone,
+        failure,
+        store,
+        text: Vec::new(list.alloc),
+        store_first,
+        has_met: false,
+        tally,
+    })
+}
+
 // Makes all calls under one failure, and says whether it was met. What is seen of a run that met none
 // is not counted.
 fn run_under(
     list: &List,
     alone: &[Alone],
     failure: Failure,
-    seen: &mut FailureCounts,
+    seen: &mut Seen,
 ) -> Result<bool, CaseError> {
-    let alloc = list.alloc;
-    let mut store = list.first_store()?;
-    let store_first = store.calls();
-    failure.arm_store(&mut store);
-    let mut run = Run {
-        list,
-        alone,
-        failure,
-        store,
-        text: Vec::new(alloc),
-        store_first,
-        has_met: false,
+    let mut run = run_of(list, alone, failure, seen.tally)?;
+    for place in 0..list.len() {
+        run.make(place)?;
+    }
+    if run.has_met {
+        run.count(seen)?;
+    }
+    Ok(run.has_met)
+}
+
+// Lets each call of a cause fail in turn at a place, until a run meets no failure.
+fn run_at(list: &List, alone: &[Alone], first: Failure, seen: &mut Seen) -> Result<(), CaseError> {
+    for n in 1..u64::MAX {
+        if !run_under(list, alone, Failure { n, ..first }, seen)? {
+            break;
+        }
+    }
+    Ok(())
+}
+
+// Makes all runs, and returns what was seen.
+fn run_all(list: &List, cause: FailureCause, is_once: bool) -> Result<Seen, CaseError> {
+    let alone = list.each_alone()?;
+    let places = if cause == FailureCause::Files {
+        alone.len()
+    } else {
+        1
     };
-    let mut results = Vec::new(alloc);
-    for (place, call) in list.calls()?.into_iter().enumerate() {
-        results.push(run.make(place, call)?)?;
+    let mut seen = Seen {
+        tally: Tally::new(),
+        digest: Digest::new(),
+    };
+    for place in 0..places {
+        let first = Failure {
+            cause,
+            is_once,
+            place,
+            n: 1,
+        };
+        run_at(list, &alone, first, &mut seen)?;
     }
-    if !run.has_met {
-        return Ok(false);
-    }
-    for (call_result, is_right) in &results {
-        seen.note(call_result, *is_right);
-    }
-    one_more(&mut seen.runs);
-    let store = &run.store;
-    if !holds_own_alone(list, store, alone)? {
-        one_more(&mut seen.wrong);
-    }
-    seen.digest.update(&run.text);
-    seen.digest
-        .update(format!(in alloc; "{store:?}\n")?.as_bytes());
-    Ok(true)
+    Ok(seen)
 }
 
 /// Lets each call of a cause fail in turn, until a run meets no failure, and writes how many failures
@@ -333,27 +430,22 @@ pub(crate) fn write(
     cause: FailureCause,
     is_once: bool,
 ) -> Result<(), CaseError> {
-    let alone = list.each_alone()?;
-    let places = if cause == FailureCause::Files {
-        alone.len()
-    } else {
-        1
-    };
-    let mut seen = FailureCounts::new();
-    for place in 0..places {
-        for n in 1..u64::MAX {
-            let failure = Failure {
-                cause,
-                is_once,
-                place,
-                n,
-            };
-            if !run_under(list, &alone, failure, &mut seen)? {
-                break;
-            }
-        }
-    }
-    seen.write(list.alloc, out)
+    let Seen { tally, digest } = run_all(list, cause, is_once)?;
+    let digest_text = digest.finish(list.alloc)?;
+    tally.write(list.alloc, out)?;
+    Ok(write_end(list.alloc, out, tally.wrong, &digest_text)?)
+}
+
+/// Writes how many results were wrong, and a digest.
+pub(crate) fn write_end(
+    alloc: Global,
+    out: &mut Vec<u8>,
+    wrong: u64,
+    digest_text: &str,
+) -> Result<(), AllocError> {
+    write_number(alloc, out, "\nwrong: ", wrong)?;
+    out.push(b'\n')?;
+    out.extend_from_slice(digest_text.as_bytes())
 }
 
 /// Makes all calls at once, and writes how many results there were, and how many of them are neither
@@ -362,34 +454,37 @@ pub(crate) fn write(
 /// one request for memory fails.
 pub(crate) fn write_checked(list: &List, out: &mut Vec<u8>) -> Result<(), CaseError> {
     let mut store = list.store()?;
-    let mut calls = list.calls()?;
-    let call_results = list.make_all(&mut store, &mut calls)?;
-    let first = wrong_results(list, &list.each_alone()?, &store, &call_results)?;
-    let second = wrong_results(list, &list.each_alone()?, &store, &call_results)?;
-    let (count, wrong) = (call_results.len(), first.min(second));
-    let text = format!(in list.alloc; "{count} results, {wrong} wrong")?;
-    Ok(out.extend_from_slice(text.as_bytes())?)
+    let call_results = list.make_each(&mut store)?;
+    let first = wrong_results(list, &store, &call_results)?;
+    let second = wrong_results(list, &store, &call_results)?;
+    write_number(list.alloc, out, "", call_results.len() as u64)?;
+    write_number(list.alloc, out, " results, ", first.min(second))?;
+    Ok(out.extend_from_slice(b" wrong")?)
 }
 
 fn wrong_results(
     list: &List,
-    each: &[Alone],
     store: &MapStore,
     call_results: &[CallResult],
 ) -> Result<u64, CaseError> {
-    let mut wrong = 0;
-    if !holds_own_alone(list, store, each)? {
-        one_more(&mut wrong);
+    let each = list.each_alone()?;
+    let mut wrong: u64 = 0;
+    if !holds_own_alone(list, store, &each)? {
+        wrong = 1;
     }
     for (alone, call_result) in each.iter().zip(call_results.iter()) {
-        let is_right = match call_result {
-            Ok(_) => same_key(&alone.call_result, call_result),
-            Err(KeyError::Memory | KeyError::Store) => true,
-            Err(_) => same_result(&alone.call_result, call_result),
-        };
-        if !is_right {
-            one_more(&mut wrong);
+        if !is_allowed(&alone.call_result, call_result) {
+            wrong = wrong.saturating_add(1);
         }
     }
     Ok(wrong)
+}
+
+// Whether a call may have this result where memory may be lacking and it has that one alone.
+fn is_allowed(plain: &CallResult, call_result: &CallResult) -> bool {
+    match call_result {
+        Ok(_) => same_key(plain, call_result),
+        Err(KeyError::Memory | KeyError::Store) => true,
+        Err(_) => same_result(plain, call_result),
+    }
 }

@@ -1,4 +1,5 @@
 //! The calls of a script as a list, made on a store.
+use crate::commands::write_number;
 use c_cache_keys::cck_entry::PreprocessorCacheEntry;
 use c_cache_keys::{Call, HashResult, KeyError, MapStore, PreprocessorStore, run_calls};
 use cck_cases::CaseError;
@@ -7,7 +8,8 @@ use cck_include::PreprocessorCacheModeConfig;
 use cck_script::{RunOptions, Script, ScriptError, copy_variables};
 use cck_util::{MapFiles, Sha256State, UtilError};
 use jiff::tz::TimeZone;
-use std::alloc::Global;
+use std::alloc::{AllocError, Global};
+use std::slice;
 
 /// A call of a script.
 pub(crate) type MiniCall = Call<MiniCompiler, MapFiles>;
@@ -16,7 +18,6 @@ pub(crate) type MiniCall = Call<MiniCompiler, MapFiles>;
 pub(crate) type CallResult = Result<HashResult, KeyError>;
 
 /// What the calls of a script are made of and under.
-#[derive(Drop)]
 pub(crate) struct List {
     /// The allocator of all that is made.
     pub(crate) alloc: Global,
@@ -28,8 +29,19 @@ pub(crate) struct List {
     zone: TimeZone<'static>,
 }
 
+impl Drop for List {
+    fn drop(self) {
+        let List {
+            alloc: _,
+            options: _,
+            calls: _,
+            first: _,
+            zone: _,
+        } = self;
+    }
+}
+
 /// A call that is made alone, on a store that holds nothing.
-#[derive(Drop)]
 pub(crate) struct Alone {
     /// Its result, of which the key is its plain key.
     pub(crate) call_result: CallResult,
@@ -39,52 +51,74 @@ pub(crate) struct Alone {
     pub(crate) keys: Vec<String>,
 }
 
-/// That memory ran out. Nothing else makes a call of a script fail as a whole.
-pub(crate) fn memory_error(_: Failed) -> CaseError {
-    CaseError::Util(UtilError::Memory)
+impl Drop for Alone {
+    fn drop(self) {
+        let Alone {
+            call_result: _,
+            store: _,
+            keys: _,
+        } = self;
+    }
+}
+
+// The script of this text.
+fn script_of(alloc: Global, text: &[u8]) -> Result<Script, CaseError> {
+    match Script::parse(alloc, text) {
+        Ok(script) => Ok(script),
+        Err(ScriptError::Memory) => Err(CaseError::Util(UtilError::Memory)),
+        Err(_) => Err(CaseError::Line),
+    }
+}
+
+// The calls of a script whose zone has this offset.
+fn calls_of(alloc: Global, zone_offset: i32, script: Script) -> Result<Vec<MiniCall>, Failed> {
+    let compiler = compiler_of::<Sha256State>(alloc, zone_offset)?;
+    ready_calls(alloc, &compiler, script)
+}
+
+// The list of the calls of a script, under these options.
+fn list_of(alloc: Global, options: RunOptions, script: Script) -> Result<List, Failed> {
+    let zone = zone_at(options.zone_offset)?;
+    let calls = calls_of(alloc, options.zone_offset, script)?;
+    Ok(List {
+        alloc,
+        options,
+        calls,
+        first: None,
+        zone,
+    })
 }
 
 impl List {
     /// The list of the script of this text.
     pub(crate) fn of_text(alloc: Global, text: &[u8]) -> Result<List, CaseError> {
-        let script = match Script::parse(alloc, text) {
-            Ok(script) => script,
-            Err(ScriptError::Memory) => return Err(CaseError::Util(UtilError::Memory)),
-            Err(_) => return Err(CaseError::Line),
-        };
+        let script = script_of(alloc, text)?;
         let options = script.options(alloc)?;
-        let compiler = compiler_of::<Sha256State>(alloc, options.zone_offset).map_err(
-            memory_error,
-        )?;
-        Ok(List {
-            alloc,
-            calls: ready_calls(alloc, &compiler, script).map_err(memory_error)?,
-            first: None,
-            zone: zone_at(options.zone_offset).map_err(memory_error)?,
-            options,
-        })
+        // Nothing but lack of memory makes the calls of a script fail as a whole.
+        match list_of(alloc, options, script) {
+            Ok(list) => Ok(list),
+            Err(_) => Err(CaseError::Util(UtilError::Memory)),
+        }
     }
 
     /// Lets the store hold an entry at first, under the key of the first call: its own result, and so
     /// many others, of this path, with a recorded digest that no file has.
     pub(crate) fn hold_entry(&mut self, others: u64, path: &[u8]) -> Result<(), CaseError> {
-        let (key, mut bytes) = self.first_pair()?;
-        let mut entry = PreprocessorCacheEntry::read(self.alloc, &bytes)?;
-        self.add_results(&mut entry, others, path)?;
-        bytes.clear();
-        entry.serialize_to(&mut bytes)?;
+        let mut alone = self.alone(self.call(0)?)?;
+        let key = alone.keys.pop().ok_or(CaseError::Line)?;
+        let own = alone.store.held(&key).ok_or(CaseError::Line)?;
+        let bytes = self.with_others(own, others, path)?;
         self.first = Some((key, bytes));
         Ok(())
     }
 
-    // The key of the first call, and the bytes of the entry that it puts, where it is made alone.
-    fn first_pair(&self) -> Result<(String, Vec<u8>), CaseError> {
-        let mut store = MapStore::new(self.alloc);
-        let _ = self.make(&mut store, self.call(0)?)?;
-        let key = keys_of(self.alloc, &store)?.pop().ok_or(CaseError::Line)?;
-        let bytes = store.held(&key).ok_or(CaseError::Line)?;
-        let bytes = bytes.to_vec(self.alloc)?;
-        Ok((key, bytes))
+    // The bytes of an entry, with so many other results at the first call.
+    fn with_others(&self, own: &[u8], others: u64, path: &[u8]) -> Result<Vec<u8>, CaseError> {
+        let mut entry = PreprocessorCacheEntry::read(self.alloc, own)?;
+        self.add_results(&mut entry, others, path)?;
+        let mut bytes = Vec::new(self.alloc);
+        entry.serialize_to(&mut bytes)?;
+        Ok(bytes)
     }
 
     // Adds results to an entry, at the first call: each of this path, with a recorded digest that no
@@ -95,7 +129,7 @@ impl List {
         count: u64,
         path: &[u8],
     ) -> Result<(), CaseError> {
-        let first = self.calls.first().ok_or(CaseError::Line)?;
+        let first = self.call(0)?;
         let mut files = first.files.copy(self.alloc)?;
         let included = included_once(self.alloc, path)?;
         for number in 0..count {
@@ -130,38 +164,32 @@ impl List {
         Ok(store)
     }
 
-    /// The calls once more, in the order of their lines.
-    pub(crate) fn calls(&self) -> Result<Vec<MiniCall>, CaseError> {
+    /// How many calls there are.
+    pub(crate) fn len(&self) -> usize {
+        self.calls.len()
+    }
+
+    // The call of this place.
+    fn call(&self, place: usize) -> Result<&MiniCall, CaseError> {
+        self.calls.get(place).ok_or(CaseError::Line)
+    }
+
+    // The calls once more, in the order of their lines.
+    fn copies(&self) -> Result<Vec<MiniCall>, CaseError> {
         let mut copies = Vec::new(self.alloc);
         for call in &self.calls {
-            copies.push(self.copy(call)?)?;
+            copies.push(copy_of(self.alloc, call)?)?;
         }
         Ok(copies)
     }
 
     /// The call of this place once more.
-    pub(crate) fn call(&self, place: usize) -> Result<MiniCall, CaseError> {
-        self.copy(self.calls.get(place).ok_or(CaseError::Line)?)
+    pub(crate) fn copy(&self, place: usize) -> Result<MiniCall, CaseError> {
+        copy_of(self.alloc, self.call(place)?)
     }
 
-    fn copy(&self, call: &MiniCall) -> Result<MiniCall, CaseError> {
-        let cwd = call.cwd.to_vec(self.alloc)?;
-        let vars = copy_variables(self.alloc, &call.vars)?;
-        let files = call.files.copy(self.alloc)?;
-        let hasher = call.hasher.copy(self.alloc);
-        let hasher = hasher.map_err(|_| CaseError::Util(UtilError::Memory))?;
-        Ok(Call {
-            hasher,
-            files,
-            cwd,
-            vars,
-            moment: call.moment,
-            control: call.control,
-        })
-    }
-
-    /// Makes calls on a store.
-    pub(crate) fn make_all(
+    // Makes calls on a store.
+    fn make_all(
         &self,
         store: &mut MapStore,
         calls: &mut [MiniCall],
@@ -178,35 +206,65 @@ impl List {
         Ok(call_results)
     }
 
-    /// Makes one call on a store, and returns its result and how many calls on files it made.
+    /// Makes all calls on a store.
+    pub(crate) fn make_each(&self, store: &mut MapStore) -> Result<Vec<CallResult>, CaseError> {
+        let mut copies = self.copies()?;
+        self.make_all(store, &mut copies)
+    }
+
+    /// Makes one call on a store, and returns its result.
     pub(crate) fn make(
         &self,
         store: &mut MapStore,
-        call: MiniCall,
-    ) -> Result<(CallResult, u64), CaseError> {
-        let mut calls = Vec::new(self.alloc);
-        calls.push(call)?;
-        let call_result = self.make_all(store, &mut calls)?.pop();
-        match (call_result, calls.pop()) {
-            (Some(call_result), Some(call)) => Ok((call_result, call.files.calls())),
-            _ => Err(CaseError::Line),
-        }
+        call: &mut MiniCall,
+    ) -> Result<CallResult, CaseError> {
+        let mut call_results = self.make_all(store, slice::from_mut(call))?;
+        call_results.pop().ok_or(CaseError::Line)
+    }
+
+    // A call alone.
+    fn alone(&self, call: &MiniCall) -> Result<Alone, CaseError> {
+        let mut copy = copy_of(self.alloc, call)?;
+        self.alone_by(&mut copy)
+    }
+
+    // The same, by the copy of the call that is made.
+    fn alone_by(&self, copy: &mut MiniCall) -> Result<Alone, CaseError> {
+        let mut store = MapStore::new(self.alloc);
+        let call_result = self.make(&mut store, copy)?;
+        let keys = keys_of(self.alloc, &store)?;
+        Ok(Alone {
+            call_result,
+            store,
+            keys,
+        })
     }
 
     /// Each call alone.
     pub(crate) fn each_alone(&self) -> Result<Vec<Alone>, CaseError> {
         let mut all = Vec::new(self.alloc);
-        for call in self.calls()? {
-            let mut store = MapStore::new(self.alloc);
-            let (call_result, _) = self.make(&mut store, call)?;
-            let keys = keys_of(self.alloc, &store)?;
-            all.push(Alone {
-                call_result,
-                store,
-                keys,
-            })?;
+        for call in &self.calls {
+            all.push(self.alone(call)?)?;
         }
         Ok(all)
+    }
+}
+
+// A call once more.
+fn copy_of(alloc: Global, call: &MiniCall) -> Result<MiniCall, CaseError> {
+    let cwd = call.cwd.to_vec(alloc)?;
+    let vars = copy_variables(alloc, &call.vars)?;
+    let files = call.files.copy(alloc)?;
+    match call.hasher.copy(alloc) {
+        Ok(hasher) => Ok(Call {
+            hasher,
+            files,
+            cwd,
+            vars,
+            moment: call.moment,
+            control: call.control,
+        }),
+        Err(_) => Err(CaseError::Util(UtilError::Memory)),
     }
 }
 
@@ -220,17 +278,22 @@ fn included_once(alloc: Global, path: &[u8]) -> Result<Vec<(String, Vec<u8>)>, C
 /// The keys under which a store holds something, as `Debug` prints them.
 pub(crate) fn keys_of(alloc: Global, store: &MapStore) -> Result<Vec<String>, CaseError> {
     let text = format!(in alloc; "{store:?}")?;
-    let mut keys = Vec::new(alloc);
-    let mut rest = text.as_str();
+    quoted_in(alloc, &text)
+}
+
+// What is between quotes in a text.
+fn quoted_in(alloc: Global, text: &str) -> Result<Vec<String>, CaseError> {
+    let mut quoted = Vec::new(alloc);
+    let mut rest = text;
     for _ in 0..text.len() {
         let Some((_, following)) = rest.split_once('"') else {
             break;
         };
-        let (key, left) = following.split_once('"').ok_or(CaseError::Line)?;
-        keys.push(String::from_str(alloc, key)?)?;
+        let (word, left) = following.split_once('"').ok_or(CaseError::Line)?;
+        quoted.push(String::from_str(alloc, word)?)?;
         rest = left;
     }
-    Ok(keys)
+    Ok(quoted)
 }
 
 /// Puts bytes under a key.
@@ -260,20 +323,19 @@ pub(crate) fn write_call_result(
     alloc: Global,
     out: &mut Vec<u8>,
     call_result: &CallResult,
-) -> Result<(), CaseError> {
+) -> Result<(), AllocError> {
     match call_result {
-        Ok(found) => {
-            let word: &[u8] = if found.is_locally_preprocessed {
-                b"miss "
-            } else {
-                b"hit "
-            };
-            out.extend_from_slice(word)?;
-            Ok(out.extend_from_slice(found.key.as_bytes())?)
-        }
-        Err(error) => {
-            let number = error.number();
-            Ok(out.extend_from_slice(format!(in alloc; "error {number}")?.as_bytes())?)
-        }
+        Ok(found) => write_key(out, found),
+        Err(error) => write_number(alloc, out, "error ", u64::from(error.number())),
     }
+}
+
+fn write_key(out: &mut Vec<u8>, found: &HashResult) -> Result<(), AllocError> {
+    let word: &[u8] = if found.is_locally_preprocessed {
+        b"miss "
+    } else {
+        b"hit "
+    };
+    out.extend_from_slice(word)?;
+    out.extend_from_slice(found.key.as_bytes())
 }

@@ -23,19 +23,20 @@ pub(crate) fn write(
     cwd: &[u8],
     input: &[u8],
 ) -> Result<(), CaseError> {
-    let alloc = given_files.alloc;
-    match print_input(
-        alloc,
-        &mut given_files.files,
-        given_files.zone,
-        given_files.moment,
-        cwd,
-        input,
-    ) {
+    match printed_of(given_files, cwd, input) {
         Ok(text) => Ok(out.extend_from_slice(&text)?),
         Err(PrintError::Memory) => Err(CaseError::Util(UtilError::Memory)),
-        Err(error) => Ok(write_error(call, alloc, out, error)?),
+        Err(error) => Ok(write_error(call, given_files.alloc, out, error)?),
     }
+}
+
+fn printed_of(
+    given_files: &mut GivenFiles,
+    cwd: &[u8],
+    input: &[u8],
+) -> Result<Vec<u8>, PrintError> {
+    let (alloc, zone, moment) = (given_files.alloc, given_files.zone, given_files.moment);
+    print_input(alloc, &mut given_files.files, zone, moment, cwd, input)
 }
 
 fn write_error(

@@ -12,8 +12,8 @@ pub(crate) fn write_surroundings(
     paths: &str,
     surroundings: &mut Surroundings,
 ) -> Result<(), CaseError> {
-    for path in words_of(alloc, paths)? {
-        write_place(alloc, out, &mut surroundings.files, &path)?;
+    for path in &words_of(alloc, paths)? {
+        write_place(alloc, out, &mut surroundings.files, path)?;
     }
     for (name, value) in &surroundings.variables {
         write_variable(out, name, value)?;
@@ -39,6 +39,15 @@ fn write_place(
         Ok(metadata) => write_metadata(alloc, out, metadata)?,
         Err(error) => return write_file_error(alloc, out, error),
     }
+    write_contents(alloc, out, files, path)
+}
+
+fn write_contents(
+    alloc: Global,
+    out: &mut Vec<u8>,
+    files: &mut MapFiles,
+    path: &[u8],
+) -> Result<(), CaseError> {
     match read_contents(alloc, files, path) {
         Ok(contents) => Ok(write_bracketed(out, &contents)?),
         Err(FileError::Memory) => Err(CaseError::File(FileError::Memory)),

@@ -1,5 +1,5 @@
 //! Scripts.
-use crate::commands::{write_call, write_command, write_count, write_list, write_zone};
+use crate::commands::{write_call, write_command, write_list, write_number, write_offset};
 use crate::places::write_surroundings;
 use cck_cases::{CaseError, end_line, number};
 use cck_script::{RunOptions, Script, ScriptError, Surroundings};
@@ -45,13 +45,22 @@ fn write_of_script(
     script: Script,
     rest: &str,
 ) -> Result<(), CaseError> {
+    if let ScriptTextCall::Surroundings = call {
+        return write_at_call(alloc, out, script, rest);
+    }
+    Ok(write_lines(call, alloc, out, &script)?)
+}
+
+fn write_lines(
+    call: ScriptTextCall,
+    alloc: Global,
+    out: &mut Vec<u8>,
+    script: &Script,
+) -> Result<(), AllocError> {
     match call {
-        ScriptTextCall::Parse | ScriptTextCall::ErrorText => Ok(write_commands(
-            alloc, out, &script,
-        )?),
-        ScriptTextCall::Calls => Ok(write_calls(alloc, out, &script)?),
-        ScriptTextCall::Options => Ok(write_options(alloc, out, &script.options(alloc)?)?),
-        ScriptTextCall::Surroundings => write_at_call(alloc, out, script, rest),
+        ScriptTextCall::Calls => write_calls(alloc, out, script),
+        ScriptTextCall::Options => write_options(alloc, out, &script.options(alloc)?),
+        _ => write_commands(alloc, out, script),
     }
 }
 
@@ -92,16 +101,17 @@ fn write_calls(alloc: Global, out: &mut Vec<u8>, script: &Script) -> Result<(), 
 }
 
 fn write_options(alloc: Global, out: &mut Vec<u8>, options: &RunOptions) -> Result<(), AllocError> {
-    write_zone(alloc, out, options.zone_offset)?;
+    out.extend_from_slice(b"zone")?;
+    write_offset(alloc, out, options.zone_offset)?;
     out.extend_from_slice(b"\nbasedirs")?;
     write_list(out, &options.basedirs)?;
     if let Some(count) = options.forget_at {
         out.push(b'\n')?;
-        write_count(alloc, out, "forget", count)?;
+        write_number(alloc, out, "forget ", count)?;
     }
     if let Some(count) = options.fail_at {
         out.push(b'\n')?;
-        write_count(alloc, out, "fail", count)?;
+        write_number(alloc, out, "fail ", count)?;
     }
     Ok(())
 }
@@ -115,16 +125,32 @@ fn write_at_call(
     rest: &str,
 ) -> Result<(), CaseError> {
     let (before, paths) = rest.split_once(' ').unwrap_or((rest, ""));
-    let mut before = number::<u64>(before)?;
+    let mut surroundings = surroundings_at(alloc, script, number(before)?)?;
+    write_surroundings(alloc, out, paths, &mut surroundings)
+}
+
+// The surroundings after so many calls, or after all lines.
+fn surroundings_at(alloc: Global, script: Script, before: u64) -> Result<Surroundings, AllocError> {
     let mut surroundings = Surroundings::new(alloc)?;
+    follow(alloc, script, before, &mut surroundings)?;
+    Ok(surroundings)
+}
+
+fn follow(
+    alloc: Global,
+    script: Script,
+    before: u64,
+    surroundings: &mut Surroundings,
+) -> Result<(), AllocError> {
+    let mut left = before;
     for command in script.into_commands() {
         if command.call().is_some() {
-            if before == 0 {
+            if left == 0 {
                 break;
             }
-            before -= 1;
+            left -= 1;
         }
         surroundings.follow(alloc, command)?;
     }
-    write_surroundings(alloc, out, paths, &mut surroundings)
+    Ok(())
 }

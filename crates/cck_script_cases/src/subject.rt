@@ -1,10 +1,10 @@
 //! The calls of this library.
-use crate::failing_calls::{self, ListGiven};
+use crate::failing_calls::{self, ListCall, ListGiven};
 use crate::streams::Streams;
 use crate::{compiler, engine, mini, scripts};
 use cck_cases::{CaseError, CaseLine, GivenFiles, Subject, Value, bytes_of, find, number};
 use cck_util::{Digest, Sha256State};
-use std::alloc::Global;
+use std::alloc::{AllocError, Global};
 
 #[derive(Clone, Copy)]
 enum Word {
@@ -75,18 +75,11 @@ impl Subject for Scripts {
             return Ok(self.streams.give(name, rest)? || self.given_files.give(name, rest)?);
         };
         match word {
-            Word::Line => {
-                self.lines.extend_from_slice(rest.as_bytes())?;
-                self.lines.push(b'\n')?;
-            }
+            Word::Line => self.add_line(rest)?,
             Word::WorkingDirectory => self.cwd = bytes_of(self.alloc, rest)?,
             Word::Digested => self.is_digested = true,
             Word::StoreFailAfter => self.store_fail_after = number(rest)?,
-            Word::Held => {
-                let (count, path) = rest.split_once(' ').ok_or(CaseError::Line)?;
-                self.other_results = number(count)?;
-                self.path = bytes_of(self.alloc, path)?;
-            }
+            Word::Held => self.set_other_results(rest)?,
         }
         Ok(true)
     }
@@ -111,10 +104,27 @@ impl Subject for Scripts {
 }
 
 impl Scripts {
-    fn write(&mut self, name: &str, line: CaseLine<'_>) -> Result<(), CaseError> {
+    fn add_line(&mut self, line: &str) -> Result<(), AllocError> {
+        self.lines.extend_from_slice(line.as_bytes())?;
+        Ok(self.lines.push(b'\n')?)
+    }
+
+    fn set_other_results(&mut self, rest: &str) -> Result<(), CaseError> {
+        let (count, path) = rest.split_once(' ').ok_or(CaseError::Line)?;
+        self.other_results = number(count)?;
+        self.path = bytes_of(self.alloc, path)?;
+        Ok(())
+    }
+
+    // Makes the script: the lines, and after them these bytes.
+    fn set_text(&mut self, bytes: &[u8]) -> Result<(), AllocError> {
         self.text.clear();
         self.text.extend_from_slice(&self.lines)?;
-        self.text.extend_from_slice(line.bytes)?;
+        self.text.extend_from_slice(bytes)
+    }
+
+    fn write(&mut self, name: &str, line: CaseLine<'_>) -> Result<(), CaseError> {
+        self.set_text(line.bytes)?;
         let out = &mut self.result;
         if let Some(call) = find(&scripts::CALLS, name) {
             return scripts::write(call, self.alloc, out, &self.text, line.rest);
@@ -123,14 +133,23 @@ impl Scripts {
             return engine::write(call, self.alloc, out, &self.streams, &self.text, line.rest);
         }
         if let Some(call) = find(&failing_calls::CALLS, name) {
-            let given = ListGiven {
-                streams: &self.streams,
-                store_fail_after: self.store_fail_after,
-                other_results: self.other_results,
-                path: &self.path,
-            };
-            return failing_calls::write(call, self.alloc, out, given, &self.text, line.rest);
+            return self.write_list(call, line.rest);
         }
+        self.write_on_files(name, line)
+    }
+
+    fn write_list(&mut self, call: ListCall, rest: &str) -> Result<(), CaseError> {
+        let given = ListGiven {
+            streams: &self.streams,
+            store_fail_after: self.store_fail_after,
+            other_results: self.other_results,
+            path: &self.path,
+        };
+        failing_calls::write(call, self.alloc, &mut self.result, given, &self.text, rest)
+    }
+
+    fn write_on_files(&mut self, name: &str, line: CaseLine<'_>) -> Result<(), CaseError> {
+        let out = &mut self.result;
         let cwd = directory(&self.cwd);
         if let Some(call) = find(&mini::CALLS, name) {
             return mini::write(call, out, &mut self.given_files, cwd, line.bytes);
