@@ -1,10 +1,10 @@
 //! The calls of a script as a list, and failures among them.
 use crate::broken_streams::{self, Broken};
 use crate::failures::{self, FailureCause};
-use crate::lists::{List, write_call_result};
+use crate::lists::{CallResult, List, write_call_result};
 use crate::streams::Streams;
 use cck_cases::{CaseError, end_line, find};
-use std::alloc::Global;
+use std::alloc::{AllocError, Global};
 
 #[derive(Clone, Copy)]
 pub(crate) enum ListCall {
@@ -88,9 +88,9 @@ fn write_of_list(
 
 // Makes each call alone, on an empty store.
 fn write_plain_keys(list: &List, out: &mut Vec<u8>) -> Result<(), CaseError> {
-    for alone in list.each_alone()? {
-        end_line(out)?;
-        write_call_result(list.alloc, out, &alone.call_result)?;
+    let each = list.each_alone()?;
+    for alone in &each {
+        write_result_line(list.alloc, out, &alone.call_result)?;
     }
     Ok(())
 }
@@ -99,11 +99,20 @@ fn write_plain_keys(list: &List, out: &mut Vec<u8>) -> Result<(), CaseError> {
 fn write_results(list: &List, out: &mut Vec<u8>, fail_after: u64) -> Result<(), CaseError> {
     let mut store = list.store()?;
     store.fail_after(fail_after);
-    for call_result in list.make_each(&mut store)? {
-        end_line(out)?;
-        write_call_result(list.alloc, out, &call_result)?;
+    let call_results = list.make_each(&mut store)?;
+    for call_result in &call_results {
+        write_result_line(list.alloc, out, call_result)?;
     }
     Ok(())
+}
+
+fn write_result_line(
+    alloc: Global,
+    out: &mut Vec<u8>,
+    call_result: &CallResult,
+) -> Result<(), AllocError> {
+    end_line(out)?;
+    write_call_result(alloc, out, call_result)
 }
 
 // `CAUSE once` and `CAUSE on`: a cause, and whether one call alone fails.

@@ -75,11 +75,12 @@ impl Failure {
         let Err(error) = call_result else {
             return same_key(plain, call_result);
         };
-        match self.cause {
-            FailureCause::Files => is_fault(*error) || same_result(plain, call_result),
-            FailureCause::Store => *error == KeyError::Store || same_result(plain, call_result),
-            FailureCause::Forgetting => same_result(plain, call_result),
-        }
+        let is_told = match self.cause {
+            FailureCause::Files => is_fault(*error),
+            FailureCause::Store => matches!(error, KeyError::Store),
+            FailureCause::Forgetting => false,
+        };
+        is_told || same_result(plain, call_result)
     }
 }
 
@@ -129,6 +130,16 @@ struct Tally {
 struct Seen {
     tally: Tally,
     digest: Digest<Sha256State>,
+}
+
+impl Seen {
+    // Feeds the results of a run, and what its store holds.
+    fn feed(&mut self, alloc: Global, text: &[u8], store: &MapStore) -> Result<(), AllocError> {
+        self.digest.update(text);
+        self.digest
+            .update(format!(in alloc; "{store:?}\n")?.as_bytes());
+        Ok(())
+    }
 }
 
 impl Tally {
@@ -205,13 +216,18 @@ struct Run<'a> {
 impl Run<'_> {
     // Makes the call at a place, and notes whether its result and what is held afterwards are right.
     fn make(&mut self, place: usize) -> Result<(), CaseError> {
-        let mut call = self.list.copy(place)?;
-        self.failure.arm_files(&mut call, place);
         let mut before = disarmed(self.list.alloc, self.alone, &self.store)?;
-        self.make_armed(place, &mut call, &mut before)
+        self.make_after(place, &mut before)
     }
 
-    // The same, by the armed copy of the call, where the store held before what this one holds.
+    // The same, where this store holds what the store of the run held before.
+    fn make_after(&mut self, place: usize, before: &mut MapStore) -> Result<(), CaseError> {
+        let mut call = self.list.copy(place)?;
+        self.failure.arm_files(&mut call, place);
+        self.make_armed(place, &mut call, before)
+    }
+
+    // The same, by the armed copy of the call.
     fn make_armed(
         &mut self,
         place: usize,
@@ -254,8 +270,7 @@ impl Run<'_> {
         before: &mut MapStore,
         call_result: &CallResult,
     ) -> Result<bool, CaseError> {
-        let mut call = self.list.copy(place)?;
-        let expected = self.list.make(before, &mut call)?;
+        let expected = self.list.make_copy(before, place)?;
         Ok(same_result(&expected, call_result) && hold_alike(self.alone, before, &self.store))
     }
 
@@ -276,27 +291,31 @@ impl Run<'_> {
     // or was held at first.
     fn holds_own(&self, made: &[Alone]) -> bool {
         for alone in self.alone {
-            for key in &alone.keys {
-                let is_held = self.store.held(key).is_some();
-                if is_held && !is_own(self.list, &self.store, made, key) {
-                    return false;
-                }
+            if !are_own(self.list, &self.store, made, &alone.keys) {
+                return false;
             }
         }
         true
     }
 
+    // Makes all calls, and says whether the failure was met.
+    fn make_all(&mut self, seen: &mut Seen) -> Result<bool, CaseError> {
+        for place in 0..self.list.len() {
+            self.make(place)?;
+        }
+        if self.has_met {
+            self.count(seen)?;
+        }
+        Ok(self.has_met)
+    }
+
     // Counts this run, and notes what the store holds after it.
     fn count(&self, seen: &mut Seen) -> Result<(), CaseError> {
-        let store = &self.store;
-        let is_right = holds_own_alone(self.list, store, self.alone)?;
+        let is_right = holds_own_alone(self.list, &self.store, self.alone)?;
         seen.tally = self.tally;
         seen.tally.note_wrong(!is_right);
         seen.tally.runs = seen.tally.runs.saturating_add(1);
-        seen.digest.update(&self.text);
-        seen.digest
-            .update(format!(in self.list.alloc; "{store:?}\n")?.as_bytes());
-        Ok(())
+        Ok(seen.feed(self.list.alloc, &self.text, &self.store)?)
     }
 }
 
@@ -304,22 +323,40 @@ impl Run<'_> {
 fn disarmed(alloc: Global, each: &[Alone], store: &MapStore) -> Result<MapStore, CaseError> {
     let mut copy = MapStore::new(alloc);
     for alone in each {
-        for key in &alone.keys {
-            if let Some(bytes) = store.held(key) {
-                hold(alloc, &mut copy, key, bytes)?;
-            }
-        }
+        hold_copies(alloc, &mut copy, store, &alone.keys)?;
     }
     Ok(copy)
+}
+
+// Puts what a store holds under these keys.
+fn hold_copies(
+    alloc: Global,
+    copy: &mut MapStore,
+    store: &MapStore,
+    keys: &[String],
+) -> Result<(), CaseError> {
+    for key in keys {
+        if let Some(bytes) = store.held(key) {
+            hold(alloc, copy, key, bytes)?;
+        }
+    }
+    Ok(())
 }
 
 // Whether two stores hold the same under the keys of these calls.
 fn hold_alike(each: &[Alone], one: &MapStore, other: &MapStore) -> bool {
     for alone in each {
-        for key in &alone.keys {
-            if !is_held_alike(one, other, key) {
-                return false;
-            }
+        if !are_held_alike(one, other, &alone.keys) {
+            return false;
+        }
+    }
+    true
+}
+
+fn are_held_alike(one: &MapStore, other: &MapStore, keys: &[String]) -> bool {
+    for key in keys {
+        if !is_held_alike(one, other, key) {
+            return false;
         }
     }
     true
@@ -337,12 +374,18 @@ fn is_own(list: &List, store: &MapStore, made: &[Alone], key: &str) -> bool {
 
 // Whether each pair that is held is the own pair of one of these calls, or was held at first.
 fn holds_own_alone(list: &List, store: &MapStore, each: &[Alone]) -> Result<bool, CaseError> {
-    for key in &keys_of(list.alloc, store)? {
-        if !is_own(list, store, each, key) {
-            return Ok(false);
+    let keys = keys_of(list.alloc, store)?;
+    Ok(are_own(list, store, each, &keys))
+}
+
+// Whether a store holds under each of these keys an own pair, as `is_own` says, or nothing.
+fn are_own(list: &List, store: &MapStore, made: &[Alone], keys: &[String]) -> bool {
+    for key in keys {
+        if store.held(key).is_some() && !is_own(list, store, made, key) {
+            return false;
         }
     }
-    Ok(true)
+    true
 }
 
 // A run that begins, under one failure, after others of which this was seen.
@@ -376,13 +419,7 @@ fn run_under(
     seen: &mut Seen,
 ) -> Result<bool, CaseError> {
     let mut run = run_of(list, alone, failure, seen.tally)?;
-    for place in 0..list.len() {
-        run.make(place)?;
-    }
-    if run.has_met {
-        run.count(seen)?;
-    }
-    Ok(run.has_met)
+    run.make_all(seen)
 }
 
 // Lets each call of a cause fail in turn at a place, until a run meets no failure.
@@ -453,13 +490,28 @@ pub(crate) fn write_end(
 /// held that is no call's own. Each call is made alone twice, so that one of the two is whole where
 /// one request for memory fails.
 pub(crate) fn write_checked(list: &List, out: &mut Vec<u8>) -> Result<(), CaseError> {
+    let (count, wrong) = checked(list)?;
+    write_number(list.alloc, out, "", count as u64)?;
+    write_number(list.alloc, out, " results, ", wrong)?;
+    Ok(out.extend_from_slice(b" wrong")?)
+}
+
+// How many results there are, and how many of them are wrong.
+fn checked(list: &List) -> Result<(usize, u64), CaseError> {
     let mut store = list.store()?;
     let call_results = list.make_each(&mut store)?;
-    let first = wrong_results(list, &store, &call_results)?;
-    let second = wrong_results(list, &store, &call_results)?;
-    write_number(list.alloc, out, "", call_results.len() as u64)?;
-    write_number(list.alloc, out, " results, ", first.min(second))?;
-    Ok(out.extend_from_slice(b" wrong")?)
+    let wrong = least_wrong(list, &store, &call_results)?;
+    Ok((call_results.len(), wrong))
+}
+
+fn least_wrong(
+    list: &List,
+    store: &MapStore,
+    call_results: &[CallResult],
+) -> Result<u64, CaseError> {
+    let first = wrong_results(list, store, call_results)?;
+    let second = wrong_results(list, store, call_results)?;
+    Ok(first.min(second))
 }
 
 fn wrong_results(
@@ -468,16 +520,28 @@ fn wrong_results(
     call_results: &[CallResult],
 ) -> Result<u64, CaseError> {
     let each = list.each_alone()?;
-    let mut wrong: u64 = 0;
-    if !holds_own_alone(list, store, &each)? {
-        wrong = 1;
+    let wrong = wrong_among(&each, call_results);
+    if holds_own_alone(list, store, &each)? {
+        return Ok(wrong);
     }
-    for (alone, call_result) in each.iter().zip(call_results.iter()) {
-        if !is_allowed(&alone.call_result, call_result) {
+    Ok(wrong.saturating_add(1))
+}
+
+fn wrong_among(each: &[Alone], call_results: &[CallResult]) -> u64 {
+    let mut wrong: u64 = 0;
+    for place in 0..call_results.len() {
+        if is_wrong_at(each, call_results, place) {
             wrong = wrong.saturating_add(1);
         }
     }
-    Ok(wrong)
+    wrong
+}
+
+fn is_wrong_at(each: &[Alone], call_results: &[CallResult], place: usize) -> bool {
+    match (each.get(place), call_results.get(place)) {
+        (Some(alone), Some(call_result)) => !is_allowed(&alone.call_result, call_result),
+        _ => false,
+    }
 }
 
 // Whether a call may have this result where memory may be lacking and it has that one alone.

@@ -222,6 +222,16 @@ impl List {
         call_results.pop().ok_or(CaseError::Line)
     }
 
+    /// Makes a copy of the call of this place on a store, and returns its result.
+    pub(crate) fn make_copy(
+        &self,
+        store: &mut MapStore,
+        place: usize,
+    ) -> Result<CallResult, CaseError> {
+        let mut copy = self.copy(place)?;
+        self.make(store, &mut copy)
+    }
+
     // A call alone.
     fn alone(&self, call: &MiniCall) -> Result<Alone, CaseError> {
         let mut copy = copy_of(self.alloc, call)?;
