@@ -103,17 +103,20 @@ refused_over environment request compilation text doubtful files refusal asked i
 -- the outcome of what a recording over files adds
 pub outcome_over : (environment : Environment) (request : Request) (compilation : Compilation) (text : Bytes) (gathered : Gathered) (asked : SnapshotRequest) (bases : List Bytes) (added : Added) (outcome : Outcome) → IsAsked environment request compilation text asked
     → AreBases (request_words request) text bases → IsAdded environment asked compilation text gathered.files.files added → IsKept request bases added (gathered_tests gathered) outcome → gathered.is_doubtful ≡ false → IsOutcomeOver environment request compilation text gathered outcome
-outcome_over environment request compilation text gathered asked bases added (Recorded name) is_asked are is is_name settled = (settled, record {
-  asked = asked;
-  is_asked = is_asked;
-  judged = is.judged;
-  own = added.own;
-  is_own = is.is_own;
-  key = added.key;
-  entry = added.entry;
-  recorded = is.recorded;
-  is_name = is_name;
-})
+outcome_over environment request compilation text gathered asked bases added (Recorded name) is_asked are is is_name settled = (
+  settled,
+  record {
+    asked = asked;
+    is_asked = is_asked;
+    judged = is.judged;
+    own = added.own;
+    is_own = is.is_own;
+    key = added.key;
+    entry = added.entry;
+    recorded = is.recorded;
+    is_name = is_name;
+  },
+)
 outcome_over environment request compilation text gathered asked bases added (Refused refusal) is_asked are is shown settled = inr (inr (bases, are, shown))
 
 -- why a compilation is not recorded, by what is found by a recording over the files that were gathered

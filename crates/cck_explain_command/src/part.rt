@@ -93,7 +93,7 @@ fn push_frame<'a>(
 }
 
 /// The name of the argument of this index.
-pub fn argument_name(alloc: Global, index: usize) -> Result<String, AllocError>
+pub(crate) fn argument_name(alloc: Global, index: usize) -> Result<String, AllocError>
     ensures { IfOk result (λ name. string_bytes name ≡ item_name (codes "arguments") index) }
 {
     Ok(format!(in alloc; "arguments[{index}]")?)
