@@ -69,7 +69,7 @@ abbrev pub gcc_arguments : Bytes → Language → List Bytes → List Bytes → 
 gcc_arguments input language definitions arguments =
     record (only_input input language) { preprocessor_args = definitions; common_args = arguments }
 
--- The compilation of a request. The digest of its programs is what the system says of them, or that of their contents.
+-- The compilation of a request. Nothing is said of the digest of its programs.
 pub record IsHasher (environment : Environment) (request : Request) (hasher : CCompilerHasher ExternalCompiler) : Type 0 where
   pub compiler : external_of hasher.compiler ≡ gcc (is_plusplus (string_bytes request.compiler))
   pub executable : hasher.executable.items ≡ []
