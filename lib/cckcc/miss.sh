@@ -574,16 +574,17 @@ has_proper() {
 
 # Preprocesses the input of the call into the file $1, with these further words of a shell. The list of directories is
 # read in the locale C. The preprocessor warns of each time macro that it expands, however that is spelled and wherever it
-# is: what a text shows of the time is in no key. Extensions are not errors in system headers. It names these as they are
-# looked for, and not by a shorter path that links lead to: a header that the compiler names so is not recorded. It also
-# writes each directive that includes a header (-dI), since it may pass over a copy of a header that was read, and the
-# definitions of macros, since the key of an object has no -D and -U. In C++ it warns of what follows a literal and is a macro
-# when it is read, and not a suffix, which shows in no other way. What is on standard input is for the compiler.
+# is: what a text shows of the time is in no key. In C extensions are not errors in system headers; in C++ -Wno-pedantic
+# would define macros, as __cpp_runtime_arrays. It names system headers as they are looked for, and not by a shorter path that
+# links lead to: a header that the compiler names so is not recorded. It also writes each directive that includes a header
+# (-dI), since it may pass over a copy of a header that was read, and the definitions of macros, since the key of an object
+# has no -D and -U. In C++ it warns of what follows a literal and is a macro when it is read, and not a suffix, which shows in
+# no other way. What is on standard input is for the compiler.
 preprocess() {
-    cck_literals=
-    ! is_cplusplus || cck_literals=-Wliteral-suffix
+    cck_warnings=-Wno-pedantic
+    ! is_cplusplus || cck_warnings=-Wliteral-suffix
     eval "LC_ALL=C \"\$cck_compiler\" $cck_preprocessed" \
-        '-Wdate-time -Wsystem-headers -Wno-error -Wno-pedantic -fno-canonical-system-headers' "$cck_literals $cck_macros $2" \
+        '-Wdate-time -Wsystem-headers -Wno-error -fno-canonical-system-headers' "$cck_warnings $cck_macros $2" \
         '-dI -E -v -o "$cck_scratch/$1"' < /dev/null 2> "$cck_scratch/$1-search" || true > "$cck_scratch/failed"
 }
 
@@ -757,11 +758,11 @@ cck_reading='
 # headers set them back, to what the target has, and include none of the project. The compiler knows declarations, by which
 # `__has_builtin` is 0, and more builtin functions of the target after an attribute, whose names may be pasted. A header
 # that is found in a directory of system headers only later has its shorter name from then on. A file between `<` and `>` is
-# named as what the compiler defines itself. A line directive enters no file; a marker in a source, or in a raw string over
-# lines, is not told from one of gcc. With OpenMP or OpenACC the compiler expands macros in a pragma, which an operator may
-# make of any line. In a pragma of diagnostics or of visibility it expands none; one that turns a warning on may warn of a
-# macro that the text does not show. What is pasted after `> struct` is the name of a class, unless `struct` is a macro, or a
-# parameter of that definition.
+# named as what the compiler defines itself. A backslash or a quote in a name has a backslash before it, which nothing takes
+# away. A line directive enters no file; a marker in a source, or in a raw string over lines, is not told from one of gcc.
+# With OpenMP or OpenACC the compiler expands macros in a pragma, which an operator may make of any line. In a pragma of
+# diagnostics or of visibility it expands none; one that turns a warning on may warn of a macro that the text does not show.
+# What is pasted after `> struct` is the name of a class, unless `struct` is a macro, or a parameter of that definition.
 cck_judging='
     !is_text {
         if (/warning: /) warns = 1
@@ -789,6 +790,7 @@ cck_judging='
         sub(/.*"/, "", flags)
         sub(/^# [0-9]+ "/, "", name)
         name = substr(name, 1, length(name) - length(flags) - 1)
+        if (index(name, "\\")) reason = "other-file"
         is_system = flags ~ / 3/
         is_own = index(name, ENVIRON["cck_own"]) == 1 && name !~ /\/\.\.\//
         is_of_project = !is_own && (index(name, "/usr/include/") != 1 || name ~ /\/\.\.\//)
