@@ -1,5 +1,6 @@
 -- requests as requests over snapshots
-use Rattle.std.specs.Prelude.{◌≡◌, ℕ, Bool, ◌==◌, ◌||◌, nat_eq, List, [], ◌∷◌, ◌++◌, Option, Some, None, codes, string_bytes, if◌then◌else◌}
+use Rattle.std.specs.Prelude.{◌≡◌, ◌⊎◌, ℕ, Bool, ◌==◌, ◌||◌, nat_eq, List, [], ◌∷◌, ◌++◌, IsTrue, Option, Some, None, codes, string_bytes, if◌then◌else◌}
+use Rattle.std.specs.Borrow.{Bor}
 use Rattle.std.specs.List.{after_first, before_first, ends_with}
 use Rattle.std.specs.Option.{option_map}
 use Rattle.c_cache_keys.specs.Keys.{preprocessor_key_of}
@@ -12,6 +13,7 @@ use Rattle.cck_cache_command.specs.Input.{IsInput}
 use Rattle.cck_cache_command.specs.declared.environment.Environment.{Environment}
 use Rattle.cck_cache_arguments.specs.declared.request.Request.{Request}
 use Rattle.cck_cache_options.specs.Call.{is_assembler, is_cplusplus}
+use Rattle.cck_cache_files.specs.Compiler.{IsContentsDigest, IsStatusDigest, is_hex_digest}
 use Rattle.cck_compiler.specs.Arguments.{Arguments, only_input}
 use Rattle.cck_compiler.specs.Seen.{arguments_of}
 use Rattle.cck_compiler.specs.declared.compiler.CCompilerKind.TheVariants.{Gcc}
@@ -69,10 +71,17 @@ abbrev pub gcc_arguments : Bytes → Language → List Bytes → List Bytes → 
 gcc_arguments input language definitions arguments =
     record (only_input input language) { preprocessor_args = definitions; common_args = arguments }
 
--- The compilation of a request. Nothing is said of the digest of its programs.
+-- The digest of these programs: of what the system says of each. Where a directory keeps digests, it is 64 digits that
+-- the directory has, or that of their contents.
+abbrev pub IsCompilerDigest : Option (Bor Bytes) → Bytes → Bytes → Type 0
+IsCompilerDigest None programs digest = IsStatusDigest sha256 programs digest
+IsCompilerDigest (Some _) programs digest = IsTrue (is_hex_digest digest) ⊎ IsContentsDigest sha256 programs digest
+
+-- The compilation of a request.
 pub record IsHasher (environment : Environment) (request : Request) (hasher : CCompilerHasher ExternalCompiler) : Type 0 where
   pub compiler : external_of hasher.compiler ≡ gcc (is_plusplus (string_bytes request.compiler))
   pub executable : hasher.executable.items ≡ []
+  pub digest : IsCompilerDigest request.digests (string_bytes request.compiler) (string_bytes hasher.executable_digest)
   pub arguments : List Bytes
   pub keyed : AreKeyed (request_words request) environment.compiler_variables.items arguments
   pub parsed : arguments_of hasher.parsed_args ≡ gcc_arguments request.input.now (language_of request) (lists_of request.definitions.items) arguments

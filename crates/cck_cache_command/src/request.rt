@@ -4,7 +4,7 @@ ghost use Rattle.std.specs.List.{after_first, before_first};
 ghost use Rattle.std.specs.Option.{option_map};
 ghost use Rattle.cck_cache_rules.specs.Base.{word_lists};
 ghost use Rattle.cck_cache_command.specs.Input.{IsInput};
-ghost use Rattle.cck_cache_command.specs.Request.{AreKeyed, HasPreprocessorKey, IsHasher, IsRequest, gcc_arguments, is_colon, is_plusplus, language_of, request_words};
+ghost use Rattle.cck_cache_command.specs.Request.{AreKeyed, HasPreprocessorKey, IsCompilerDigest, IsHasher, IsRequest, gcc_arguments, is_colon, is_plusplus, language_of, request_words};
 ghost use Rattle.cck_cache_arguments.specs.declared.request.Request as words;
 ghost use Rattle.cck_compiler.specs.Seen.{arguments_of};
 ghost use Rattle.cck_path.specs.Bytes.{lists_of};
@@ -141,20 +141,24 @@ fn parsed(
     arguments
 }
 
+// What the errors of programs say.
+const PROGRAM: &str = "a program of the compiler";
+
 // The digest of the programs of a request. The error names the store, or says that it is of a program.
 fn digest_of<R: Files + AllocGlobal>(
     rt: &R,
     environment: &Environment<'_>,
     request: &Request<'_>,
-) -> Result<String> {
-    let digest = match request.digests {
-        Some(directory) => {
-            let store = store_in(rt, environment, directory)?;
-            shared_compiler_digest(rt, &store, request.compiler.as_str())
-        }
-        None => compiler_digest(rt, request.compiler.as_str()),
+) -> Result<String>
+    ensures { IfOk result (λ digest.
+        IsCompilerDigest request.now.digests (string_bytes request.now.compiler) (string_bytes digest)) }
+{
+    let programs = request.compiler.as_str();
+    let Some(directory) = request.digests else {
+        return Ok(compiler_digest(rt, programs).context(PROGRAM)?);
     };
-    digest.context("a program of the compiler")
+    let store = store_in(rt, environment, directory)?;
+    Ok(shared_compiler_digest(rt, &store, programs).context(PROGRAM)?)
 }
 
 /// The compilation of a request, by gcc. Its digest is also that of its version and its assembler.

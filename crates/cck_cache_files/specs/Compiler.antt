@@ -58,3 +58,11 @@ abbrev pub IsProgramsDigest : (List ℕ → List ℕ) → Part → List ℕ → 
 IsProgramsDigest hash part paths text =
     (lines : List (List ℕ)) × AllZip (IsProgramLine hash part) (slice_split (λ c. c == 58) paths) lines
     × (text ≡ digest_text hash (concatenation lines))
+
+-- the digest of what the system says of each program
+abbrev pub IsStatusDigest : (List ℕ → List ℕ) → List ℕ → List ℕ → Type 0
+IsStatusDigest hash paths text = IsProgramsDigest hash Status paths text
+
+-- the digest of the contents of each program
+abbrev pub IsContentsDigest : (List ℕ → List ℕ) → List ℕ → List ℕ → Type 0
+IsContentsDigest hash paths text = IsProgramsDigest hash Contents paths text

@@ -1,7 +1,7 @@
 //! The programs that a compilation runs.
 ghost use Rattle.std.specs.Prelude.{◌≡◌, ◌⊎◌, ℕ, List, IfOk, IfSome, IsTrue, string_bytes};
 ghost use Rattle.cck_digest.specs.Digest.{digest_text};
-ghost use Rattle.cck_cache_files.specs.Compiler.{IsContentsLine, IsProgramLine, IsProgramsDigest, IsStatusLine, is_hex_digest, place_text, instant_text};
+ghost use Rattle.cck_cache_files.specs.Compiler.{IsContentsDigest, IsContentsLine, IsProgramLine, IsProgramsDigest, IsStatusDigest, IsStatusLine, is_hex_digest, place_text, instant_text};
 
 use crate::store_directory::StoreDirectory;
 use cck_digest::{Digest, HashState, Sha256State};
@@ -114,7 +114,7 @@ fn programs_digest<H: HashState, R: Files + AllocGlobal>(
 /// The error is that of a program that can't be looked at, or lack of memory.
 pub fn compiler_digest<R: Files + AllocGlobal>(rt: &R, paths: &str) -> io::Result<String>
     ensures { IfOk result (λ text.
-        IsProgramsDigest ⟦<Sha256State as HashState>⟧.hash Part.Status paths.now (string_bytes text)) }
+        IsStatusDigest ⟦<Sha256State as HashState>⟧.hash paths.now (string_bytes text)) }
 {
     programs_digest::<Sha256State, R>(rt, Part::Status, paths)
 }
@@ -152,7 +152,7 @@ pub fn shared_compiler_digest<R: Files + AllocGlobal>(
     paths: &str,
 ) -> io::Result<String>
     ensures { IfOk result (λ text. IsTrue (is_hex_digest (string_bytes text))
-        ⊎ IsProgramsDigest ⟦<Sha256State as HashState>⟧.hash Part.Contents paths.now (string_bytes text)) }
+        ⊎ IsContentsDigest ⟦<Sha256State as HashState>⟧.hash paths.now (string_bytes text)) }
 {
     let name = compiler_digest(rt, paths)?;
     let path = store.digest_path(rt, name.as_str())?;
