@@ -34,7 +34,6 @@ use std::alloc::{AllocError, Global};
 /// A compilation whose keys can be computed: a compiler and a parsed command line.
 ///
 /// Upstream's `compiler::c::CCompilerHasher`.
-#[derive(Drop)]
 pub struct CCompilerHasher<I> {
     /// The compiler.
     pub compiler: I,
@@ -44,6 +43,17 @@ pub struct CCompilerHasher<I> {
     pub executable_digest: String,
     /// The parsed command line.
     pub parsed_args: ParsedArguments,
+}
+
+impl<I: Drop> Drop for CCompilerHasher<I> {
+    fn drop(self) {
+        let CCompilerHasher {
+            compiler: _,
+            executable: _,
+            executable_digest: _,
+            parsed_args: _,
+        } = self;
+    }
 }
 
 impl<I: CCompilerImpl> CCompilerHasher<I> {

@@ -16,7 +16,6 @@ pub enum Programs<'a> {
 }
 
 /// A call of a compiler: what the words of the command line say of it.
-#[derive(Drop)]
 pub struct CompilerCall<'a> {
     /// The programs that the compiler runs.
     pub programs: Programs<'a>,
@@ -31,8 +30,19 @@ pub struct CompilerCall<'a> {
     pub base: Option<&'a str>,
 }
 
+impl Drop for CompilerCall<'_> {
+    fn drop(self) {
+        let CompilerCall {
+            programs: _,
+            directory: _,
+            arguments: _,
+            digests: _,
+            base: _,
+        } = self;
+    }
+}
+
 /// The compilation that a call of a compiler asks for.
-#[derive(Drop)]
 pub struct Request<'a> {
     /// The paths of the programs that the compiler runs, with colons between them.
     pub compiler: String,
@@ -50,6 +60,20 @@ pub struct Request<'a> {
     pub digests: Option<&'a str>,
     /// The base directory, if objects are shared between checkouts.
     pub base: Option<&'a str>,
+}
+
+impl Drop for Request<'_> {
+    fn drop(self) {
+        let Request {
+            compiler: _,
+            directory: _,
+            input: _,
+            arguments: _,
+            definitions: _,
+            digests: _,
+            base: _,
+        } = self;
+    }
 }
 
 // The bytes of each argument of the compiler.

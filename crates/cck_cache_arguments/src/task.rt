@@ -20,7 +20,7 @@ const WRONG_TIME: &str =
 const MISSING: &str = "a word of the command is missing";
 
 /// Where the parts of an object file are written.
-#[derive(Drop)]
+#[derive(Clone, Copy)]
 pub struct Outputs<'a> {
     /// The path to which the object is written.
     pub object: &'a str,
@@ -41,7 +41,6 @@ pub struct Server<'a> {
 }
 
 /// What a look-up is for.
-#[derive(Drop)]
 pub struct Look<'a> {
     /// The path of the store.
     pub store: &'a str,
@@ -53,8 +52,19 @@ pub struct Look<'a> {
     pub request: Request<'a>,
 }
 
+impl Drop for Look<'_> {
+    fn drop(self) {
+        let Look {
+            store: _,
+            server: _,
+            outputs: _,
+            request: _,
+        } = self;
+    }
+}
+
 /// What is recorded beside the compilation that was asked for.
-#[derive(Drop)]
+#[derive(Clone, Copy)]
 pub struct Compilation<'a> {
     /// The time at which the look-up ended, by the clock of the store's file system.
     pub since: Timestamp,
@@ -71,7 +81,7 @@ pub struct Compilation<'a> {
 }
 
 /// What a compiler made.
-#[derive(Drop)]
+#[derive(Clone, Copy)]
 pub struct Made<'a> {
     /// The path of the object.
     pub object: &'a str,
@@ -96,7 +106,7 @@ pub enum Source<'a> {
 }
 
 /// An object file that is not in the store.
-#[derive(Drop)]
+#[derive(Clone, Copy)]
 pub struct Packed<'a> {
     /// The name of the object.
     pub name: &'a str,
@@ -107,7 +117,7 @@ pub struct Packed<'a> {
 }
 
 /// What a value of a server is made of, beside its bytes.
-#[derive(Drop)]
+#[derive(Clone, Copy)]
 pub struct Seal<'a> {
     /// The kind of the file, `entry` or `object`.
     pub kind: &'a str,

@@ -61,7 +61,6 @@ const PASSED: [&str; 15] = [
 const SEARCHED: [&str; 3] = ["PATH", "LD_LIBRARY_PATH", "LD_PRELOAD"];
 
 /// What a process is given beside its words.
-#[derive(Drop)]
 pub struct Environment<'a> {
     /// The time of the system's clock.
     pub now: Timestamp,
@@ -83,6 +82,23 @@ pub struct Environment<'a> {
     pub search: Option<SearchVariables>,
     /// The number of the process.
     pub id: u32,
+}
+
+impl Drop for Environment<'_> {
+    fn drop(self) {
+        let Environment {
+            now: _,
+            zone: _,
+            variables: _,
+            compiler_variables: _,
+            knows_native: _,
+            reads_all: _,
+            max_size: _,
+            is_passed_on: _,
+            search: _,
+            id: _,
+        } = self;
+    }
 }
 
 impl Environment<'_> {

@@ -53,7 +53,6 @@ const MISS: u8 = 3;
 const LATE: &[u8] = b"late\n";
 
 // What the program prints.
-#[derive(Drop)]
 struct Printed {
     // On standard output, or to a file.
     answer: Vec<u8>,
@@ -61,6 +60,16 @@ struct Printed {
     messages: Vec<u8>,
     // The path of a file to which the answer is written in place of standard output, if there is one.
     place: Option<String>,
+}
+
+impl Drop for Printed {
+    fn drop(self) {
+        let Printed {
+            answer: _,
+            messages: _,
+            place: _,
+        } = self;
+    }
 }
 
 // What a call of a compiler asks for.

@@ -33,7 +33,6 @@ pub struct KnownFile {
 }
 
 /// The files with which gcc may compare another one.
-#[derive(Drop)]
 pub struct ComparedFiles {
     /// Their lengths and times.
     pub known: Vec<KnownFile>,
@@ -43,6 +42,17 @@ pub struct ComparedFiles {
     pub input: Vec<u8>,
     /// The time before which they last changed.
     pub since: Timestamp,
+}
+
+impl Drop for ComparedFiles {
+    fn drop(self) {
+        let ComparedFiles {
+            known: _,
+            paths: _,
+            input: _,
+            since: _,
+        } = self;
+    }
 }
 
 /// Whether the snapshot has something at a path.

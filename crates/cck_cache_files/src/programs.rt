@@ -38,7 +38,6 @@ const GROUP_EXECUTES: u32 = 0o010;
 const OTHERS_EXECUTE: u32 = 0o001;
 
 /// The variables by which programs and their libraries are found.
-#[derive(Drop)]
 pub struct SearchVariables {
     /// `PATH`.
     pub path: String,
@@ -46,6 +45,16 @@ pub struct SearchVariables {
     pub library_path: String,
     /// `LD_PRELOAD`, which is empty if it is not set.
     pub preload: String,
+}
+
+impl Drop for SearchVariables {
+    fn drop(self) {
+        let SearchVariables {
+            path: _,
+            library_path: _,
+            preload: _,
+        } = self;
+    }
 }
 
 /// What a store keeps of the programs of a compiler.

@@ -20,7 +20,6 @@ pub struct Keyed<'a> {
 }
 
 /// What a call asks for.
-#[derive(Drop)]
 pub struct Call<'a> {
     /// Whether an object is made.
     pub compiles: bool,
@@ -42,6 +41,23 @@ pub struct Call<'a> {
     pub keyed: Vec<Keyed<'a>>,
     /// The directories in which headers are looked for, in their order.
     pub directories: Vec<&'a [u8]>,
+}
+
+impl Drop for Call<'_> {
+    fn drop(self) {
+        let Call {
+            compiles: _,
+            input: _,
+            output: _,
+            depends: _,
+            preprocessor_depends: _,
+            describes: _,
+            targets: _,
+            dependency_file: _,
+            keyed: _,
+            directories: _,
+        } = self;
+    }
 }
 
 /// What the arguments of a call say.

@@ -15,7 +15,6 @@ use std::alloc::{AllocError, Global};
 const KIND: &[u8] = b"cck entry 4\n";
 
 /// What an entry file holds.
-#[derive(Drop)]
 pub struct EntryFile {
     /// The preprocessor key that the entry belongs to.
     pub preprocessor_key: Vec<u8>,
@@ -26,6 +25,17 @@ pub struct EntryFile {
     pub statuses: Vec<PathStatus>,
     /// What held of paths when the entry was recorded, and must hold before it is used.
     pub tests: Vec<PathTest>,
+}
+
+impl Drop for EntryFile {
+    fn drop(self) {
+        let EntryFile {
+            preprocessor_key: _,
+            entry: _,
+            statuses: _,
+            tests: _,
+        } = self;
+    }
 }
 
 // What these parts say. `None` where there are fewer than two, where another one is no status and no

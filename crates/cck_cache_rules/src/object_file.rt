@@ -11,7 +11,6 @@ use std::alloc::{AllocError, Global};
 const KIND: &[u8] = b"cck object 4\n";
 
 /// What an object file of the store holds.
-#[derive(Drop)]
 pub struct ObjectFile {
     /// The key of the file: the name of the object.
     pub key: Vec<u8>,
@@ -21,6 +20,17 @@ pub struct ObjectFile {
     pub messages: Vec<u8>,
     /// The contents of the dependency file. Empty if the compiler wrote none.
     pub dependencies: Vec<u8>,
+}
+
+impl Drop for ObjectFile {
+    fn drop(self) {
+        let ObjectFile {
+            key: _,
+            object: _,
+            messages: _,
+            dependencies: _,
+        } = self;
+    }
 }
 
 // What these parts say. `None` where there are not four.

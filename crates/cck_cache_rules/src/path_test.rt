@@ -21,7 +21,7 @@ const PLAIN: &[u8] = b"plain ";
 const REAL: &[u8] = b"real ";
 
 /// What must hold of a path, so that a preprocessor finds what it found.
-#[derive(Drop, PartialEq, Eq)]
+#[derive(PartialEq, Eq)]
 pub enum PathTest {
     /// There is nothing at the path.
     Absent(Vec<u8>),
@@ -47,6 +47,19 @@ pub enum PathTest {
         /// The path of the same file or directory on whose way there is no link.
         real: Vec<u8>,
     },
+}
+
+impl Drop for PathTest {
+    fn drop(self) {
+        match self {
+            PathTest::Absent(_)
+            | PathTest::File(_)
+            | PathTest::Directory(_)
+            | PathTest::Searched { path: _, place: _ }
+            | PathTest::Plain(_)
+            | PathTest::Real { path: _, real: _ } => {}
+        }
+    }
 }
 
 // These, one after the other.

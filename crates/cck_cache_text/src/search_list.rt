@@ -8,7 +8,7 @@ ghost use Rattle.cck_cache_text.specs.SearchList.{IsSearchList, ReadsLines, Test
 use std::alloc::{AllocError, Global};
 
 /// Where a compiler looks for headers, in the form in which `gcc -v` prints it.
-#[derive(Drop, PartialEq, Eq)]
+#[derive(PartialEq, Eq)]
 pub struct SearchList {
     /// The directories, in the order in which they are searched: first those for `"..."` alone.
     pub directories: Vec<Vec<u8>>,
@@ -18,6 +18,17 @@ pub struct SearchList {
     pub missing: Vec<Vec<u8>>,
     /// The directories that were left out because another one is the same.
     pub duplicates: Vec<Vec<u8>>,
+}
+
+impl Drop for SearchList {
+    fn drop(self) {
+        let SearchList {
+            directories: _,
+            quoted: _,
+            missing: _,
+            duplicates: _,
+        } = self;
+    }
 }
 
 // What is in quotes at the end of a line, after these bytes.

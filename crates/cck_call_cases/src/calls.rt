@@ -14,7 +14,6 @@ use std::alloc::Global;
 use std::mem;
 
 /// What lines give to calls for keys.
-#[derive(Drop)]
 pub(crate) struct Calls {
     given: Given,
     given_files: GivenFiles,
@@ -25,6 +24,20 @@ pub(crate) struct Calls {
     list: Vec<FixedCall>,
     // Whether what is given at first was given.
     is_prepared: bool,
+}
+
+impl Drop for Calls {
+    fn drop(self) {
+        let Calls {
+            given: _,
+            given_files: _,
+            request: _,
+            stores: _,
+            noting: _,
+            list: _,
+            is_prepared: _,
+        } = self;
+    }
 }
 
 impl Calls {

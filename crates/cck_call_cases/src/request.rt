@@ -66,7 +66,6 @@ const KINDS: [(&str, CCompilerKind); 10] = [
 ];
 
 /// What lines give of the compilation that a key is asked for.
-#[derive(Drop)]
 pub(crate) struct GivenRequest {
     /// The allocator of all that is given.
     pub(crate) alloc: Global,
@@ -77,6 +76,17 @@ pub(crate) struct GivenRequest {
     pub(crate) cwd: Vec<u8>,
     /// Whether a stored key may be returned. It may at first.
     pub(crate) control: CacheControl,
+}
+
+impl Drop for GivenRequest {
+    fn drop(self) {
+        let GivenRequest {
+            alloc: _,
+            hasher: _,
+            cwd: _,
+            control: _,
+        } = self;
+    }
 }
 
 fn no_compilation(alloc: Global) -> CCompilerHasher<FixedCompiler> {

@@ -47,7 +47,6 @@ const WORDS: [(&str, Word); 5] = [
 
 /// The stores that calls are made on: one in memory or, after `empty_store`, one that keeps
 /// nothing.
-#[derive(Drop)]
 pub(crate) struct Stores {
     /// The allocator of the stores.
     pub(crate) alloc: Global,
@@ -57,6 +56,17 @@ pub(crate) struct Stores {
     pub(crate) empty: EmptyStore,
     /// Whether calls are made on the store that keeps nothing.
     pub(crate) is_empty: bool,
+}
+
+impl Drop for Stores {
+    fn drop(self) {
+        let Stores {
+            alloc: _,
+            map: _,
+            empty: _,
+            is_empty: _,
+        } = self;
+    }
 }
 
 impl Stores {

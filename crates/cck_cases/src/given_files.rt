@@ -34,7 +34,6 @@ const WORDS: [(&str, Word); 10] = [
 ];
 
 /// What lines give for calls on files.
-#[derive(Drop)]
 pub struct GivenFiles {
     /// The allocator of all that is given.
     pub alloc: Global,
@@ -49,6 +48,18 @@ pub struct GivenFiles {
     /// `option NAME on` and `option NAME off`: the options. Those of
     /// [`activated`](PreprocessorCacheModeConfig::activated) at first.
     pub config: PreprocessorCacheModeConfig,
+}
+
+impl Drop for GivenFiles {
+    fn drop(self) {
+        let GivenFiles {
+            alloc: _,
+            files: _,
+            moment: _,
+            zone: _,
+            config: _,
+        } = self;
+    }
 }
 
 // The regular file of the text `MODIFIED CHANGED TEXT`.

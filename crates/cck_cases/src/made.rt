@@ -26,11 +26,20 @@ const WORDS: [(&str, Word); 7] = [
 ];
 
 /// The bytes that lines made, and those that they saved under a name.
-#[derive(Drop)]
 pub(crate) struct MadeBytes {
     alloc: Global,
     bytes: Vec<u8>,
     saved: Vec<(String, Vec<u8>)>,
+}
+
+impl Drop for MadeBytes {
+    fn drop(self) {
+        let MadeBytes {
+            alloc: _,
+            bytes: _,
+            saved: _,
+        } = self;
+    }
 }
 
 impl MadeBytes {

@@ -2,7 +2,6 @@
 use cck_util::Language;
 
 /// The key that is explained, but for the text that is read.
-#[derive(Drop)]
 pub struct ExplainKeyRequest<'a> {
     /// The compiler's digest.
     pub compiler_digest: &'a str,
@@ -16,6 +15,18 @@ pub struct ExplainKeyRequest<'a> {
     pub is_full: bool,
 }
 
+impl Drop for ExplainKeyRequest<'_> {
+    fn drop(self) {
+        let ExplainKeyRequest {
+            compiler_digest: _,
+            language: _,
+            arguments: _,
+            basedirs: _,
+            is_full: _,
+        } = self;
+    }
+}
+
 /// The paths that the names of line markers are compared with and joined to.
 #[derive(Clone, Copy)]
 pub struct MarkersRequest<'a> {
@@ -26,7 +37,6 @@ pub struct MarkersRequest<'a> {
 }
 
 /// What is explained.
-#[derive(Drop)]
 pub enum ExplainRequest<'a> {
     /// A key.
     Key(ExplainKeyRequest<'a>),
@@ -36,4 +46,15 @@ pub enum ExplainRequest<'a> {
     Markers(MarkersRequest<'a>),
     /// The calls of a script.
     Script,
+}
+
+impl Drop for ExplainRequest<'_> {
+    fn drop(self) {
+        match self {
+            ExplainRequest::Key(_)
+            | ExplainRequest::Entry
+            | ExplainRequest::Markers(_)
+            | ExplainRequest::Script => {}
+        }
+    }
 }

@@ -7,7 +7,7 @@ use std::marker::Model;
 use std::mem;
 
 /// A get or a put of a store, and its result.
-#[derive(Debug, Drop)]
+#[derive(Debug)]
 pub enum WatchedCall {
     /// A get under this key, and the bytes that it returned, if there were any.
     Get {
@@ -25,6 +25,21 @@ pub enum WatchedCall {
     },
 }
 
+impl Drop for WatchedCall {
+    fn drop(self) {
+        match self {
+            WatchedCall::Get {
+                key: _,
+                returned: _,
+            }
+            | WatchedCall::Put {
+                key: _,
+                returned: _,
+            } => {}
+        }
+    }
+}
+
 // A copy of what a get returned.
 fn copy_of(
     alloc: Global,
@@ -39,12 +54,21 @@ fn copy_of(
 
 /// A store in memory that passes each call on to a [`MapStore`], and keeps the calls and their results
 /// until they are taken. Its value is that of the `MapStore`.
-#[derive(Drop)]
 pub struct WatchedStore {
     store: MapStore,
     calls: Vec<WatchedCall>,
     // Whether memory was lacking for one of the calls.
     is_short: bool,
+}
+
+impl Drop for WatchedStore {
+    fn drop(self) {
+        let WatchedStore {
+            store: _,
+            calls: _,
+            is_short: _,
+        } = self;
+    }
 }
 
 impl Model for WatchedStore {

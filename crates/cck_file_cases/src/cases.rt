@@ -8,7 +8,6 @@ use cck_util::MapFiles;
 use std::alloc::Global;
 
 /// What lines give, and what the calls of a case change.
-#[derive(Drop)]
 pub(crate) struct Cases {
     /// The allocator of all that is given.
     pub(crate) alloc: Global,
@@ -24,6 +23,20 @@ pub(crate) struct Cases {
     pub(crate) entry: PreprocessorCacheEntry,
     /// Files that were put aside. None at first.
     pub(crate) saved: MapFiles,
+}
+
+impl Drop for Cases {
+    fn drop(self) {
+        let Cases {
+            alloc: _,
+            given: _,
+            given_files: _,
+            wanted: _,
+            map: _,
+            entry: _,
+            saved: _,
+        } = self;
+    }
 }
 
 // The calls whose lines have no escaped text after their names.

@@ -41,7 +41,6 @@ pub(crate) const CALLS: [(&str, WalkCall); 7] = [
 const ERRORS: [(&str, KeyError); 2] = [("Memory", KeyError::Memory), ("Marker", KeyError::Marker)];
 
 /// What lines give to walks, and what single line markers recorded.
-#[derive(Drop)]
 pub(crate) struct Walks {
     alloc: Global,
     given: Given,
@@ -52,6 +51,19 @@ pub(crate) struct Walks {
     cwd: Vec<u8>,
     /// The records that `line` adds to. None at first.
     records: Records,
+}
+
+impl Drop for Walks {
+    fn drop(self) {
+        let Walks {
+            alloc: _,
+            given: _,
+            given_files: _,
+            input: _,
+            cwd: _,
+            records: _,
+        } = self;
+    }
 }
 
 /// Makes a call. For generated texts it returns one digest: that of all results, each with an LF

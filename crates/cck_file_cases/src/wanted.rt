@@ -40,7 +40,6 @@ const WORDS: [(&str, Word); 14] = [
 ];
 
 /// What lines give to calls on files and entries.
-#[derive(Drop)]
 pub(crate) struct Wanted {
     alloc: Global,
     /// `paths LIST`: several paths. None at first.
@@ -71,6 +70,26 @@ pub(crate) struct Wanted {
     pub(crate) arch_args: Vec<Vec<u8>>,
     /// `cwd TEXT`: the working directory. Empty at first.
     pub(crate) cwd: Vec<u8>,
+}
+
+impl Drop for Wanted {
+    fn drop(self) {
+        let Wanted {
+            alloc: _,
+            paths: _,
+            offset: _,
+            buffer: _,
+            shows_date: _,
+            shows_timestamp: _,
+            modified: _,
+            zone: _,
+            included: _,
+            passing: _,
+            preprocessor_args: _,
+            arch_args: _,
+            cwd: _,
+        } = self;
+    }
 }
 
 impl Wanted {

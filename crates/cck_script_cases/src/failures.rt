@@ -197,7 +197,6 @@ impl Tally {
 }
 
 // One run of a list of calls: what it is compared with, and what is seen.
-#[derive(Drop)]
 struct Run<'a> {
     list: &'a List,
     alone: &'a [Alone],
@@ -211,6 +210,21 @@ struct Run<'a> {
     has_met: bool,
     // What was seen over all runs before, and over this one.
     tally: Tally,
+}
+
+impl Drop for Run<'_> {
+    fn drop(self) {
+        let Run {
+            list: _,
+            alone: _,
+            failure: _,
+            store: _,
+            text: _,
+            store_first: _,
+            has_met: _,
+            tally: _,
+        } = self;
+    }
 }
 
 impl Run<'_> {
@@ -374,8 +388,12 @@ fn is_own(list: &List, store: &MapStore, made: &[Alone], key: &str) -> bool {
 
 // Whether each pair that is held is the own pair of one of these calls, or was held at first.
 fn holds_own_alone(list: &List, store: &MapStore, each: &[Alone]) -> Result<bool, CaseError> {
-    let keys = keys_of(list.alloc, store)?;
-    Ok(are_own(list, store, each, &keys))
+    for key in &keys_of(list.alloc, store)? {
+        if !is_own(list, store, each, key) {
+            return Ok(false);
+        }
+    }
+    Ok(true)
 }
 
 // Whether a store holds under each of these keys an own pair, as `is_own` says, or nothing.

@@ -26,7 +26,6 @@ const KINDS: [(&str, io::ErrorKind); 4] = [
 ];
 
 /// What lines give to the reader and the writer of a run.
-#[derive(Drop)]
 pub(crate) struct Streams {
     alloc: Global,
     read_step: usize,
@@ -36,6 +35,21 @@ pub(crate) struct Streams {
     writes: Failures,
     flushes: Failures,
     written: Vec<u8>,
+}
+
+impl Drop for Streams {
+    fn drop(self) {
+        let Streams {
+            alloc: _,
+            read_step: _,
+            reads: _,
+            kind: _,
+            write_step: _,
+            writes: _,
+            flushes: _,
+            written: _,
+        } = self;
+    }
 }
 
 impl Streams {

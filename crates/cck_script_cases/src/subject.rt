@@ -24,7 +24,6 @@ const WORDS: [(&str, Word); 5] = [
 ];
 
 /// What lines give to the calls.
-#[derive(Drop)]
 pub(crate) struct Scripts {
     alloc: Global,
     given_files: GivenFiles,
@@ -43,6 +42,24 @@ pub(crate) struct Scripts {
     path: Vec<u8>,
     text: Vec<u8>,
     result: Vec<u8>,
+}
+
+impl Drop for Scripts {
+    fn drop(self) {
+        let Scripts {
+            alloc: _,
+            given_files: _,
+            streams: _,
+            lines: _,
+            cwd: _,
+            is_digested: _,
+            store_fail_after: _,
+            other_results: _,
+            path: _,
+            text: _,
+            result: _,
+        } = self;
+    }
 }
 
 // The working directory, where one is given, and else `/w`.

@@ -15,7 +15,6 @@ use std::alloc::Global;
 ///
 /// The caller also parses its command lines and runs its preprocessor. As a [`CCompilerImpl`] it
 /// parses no command line as a compilation, and prints nothing.
-#[derive(Drop)]
 pub struct ExternalCompiler {
     /// The family.
     pub kind: CCompilerKind,
@@ -25,6 +24,17 @@ pub struct ExternalCompiler {
     pub version: Option<String>,
     /// The hex digest of the assembler that it calls, if there is one.
     pub assembler_digest: Option<String>,
+}
+
+impl Drop for ExternalCompiler {
+    fn drop(self) {
+        let ExternalCompiler {
+            kind: _,
+            plusplus: _,
+            version: _,
+            assembler_digest: _,
+        } = self;
+    }
 }
 
 impl CCompilerImpl for ExternalCompiler {

@@ -5,11 +5,20 @@ use crate::{CaseError, CaseLine, Given, Subject, Value, find, words_of};
 use std::alloc::Global;
 
 /// What lines give to calls on bytes.
-#[derive(Drop)]
 pub(crate) struct Values {
     given: Given,
     pieces: Vec<Vec<u8>>,
     streams: Streams,
+}
+
+impl Drop for Values {
+    fn drop(self) {
+        let Values {
+            given: _,
+            pieces: _,
+            streams: _,
+        } = self;
+    }
 }
 
 impl Subject for Values {
