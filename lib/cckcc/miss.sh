@@ -1096,6 +1096,8 @@ has_plain_names "$@" || cck_refused=offload
 # Assembler code can include its own file, and its object can name the preprocessed one, as with STABS.
 if is_assembler; then
     lacks '/cc[A-Za-z0-9]\{6\}\.s' "$cck_out" || cck_refused=temporary-name
+    # Debug information that is compressed does not show it.
+    case " $*" in *' -gz'*) cck_refused=temporary-name ;; esac
     reads_preprocessed_alone 2>/dev/null || cck_refused=assembler-include
 fi
 if [ $cck_status -ne 0 ] || [ -e "$cck_scratch/failed" ]; then
