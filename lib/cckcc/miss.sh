@@ -50,11 +50,19 @@ locate() {
     cck_located=
 }
 
-# Whether the tools are there that decide what is recorded. It starts no process.
+# Whether the tools are there that decide what is recorded. It starts no process, but where the shell is bash.
 has_tools() {
-    for cck_tool in awk cat cksum cmp cp grep head ldd mkdir mktemp mv readlink rm sed sha256sum stat touch \
-        ${cck_server:+mkfifo}; do
-        command -v $cck_tool > /dev/null || return 1
+    set -- awk cat cksum cmp cp grep head ldd mkdir mktemp mv readlink rm sed sha256sum stat touch ${cck_server:+mkfifo}
+    for cck_tool do
+        command -v "$cck_tool" > /dev/null || return 1
+    done
+    [ -n "$BASH_VERSION" ] || return 0
+    # Bash takes functions from the environment, also one that is named as a program.
+    cck_exported=$(declare -F -x 2> /dev/null)$cck_newline
+    for cck_tool in "$cck_compiler" "$cck_program" "$@"; do
+        case $cck_exported in
+        *" $cck_tool$cck_newline"*) return 1 ;;
+        esac
     done
 }
 
@@ -87,7 +95,7 @@ locate "$cck_compiler"
 [ -n "$cck_located" ] || cck_reason=no-compiler
 # Files that the caller's mask closes for the caller can't be read again.
 case $(umask) in
-?0??) ;;
+0??|?0??) ;;
 *) cck_reason=no-scratch ;;
 esac
 # Without the server the call goes on by the directory that keeps objects, if there is one.
@@ -603,8 +611,8 @@ find_own() {
 # macros that stand for a test for a header: where one is used, a word of the header's name may be a macro too, which the
 # text then shows unless it is one of the compiler, as `__LINE__`. Where the name is an argument of the macro, the words are
 # those of all names that a file has in brackets after what may be such a macro; and no file and no macro may have two words
-# that make the macro's name, of which those are kept that have a part of its end. `goes_on` says whether a raw string goes
-# on in the next line.
+# that make the macro's name, of which those are kept that have a part of its end. `goes_on` says whether a raw string may go
+# on in the next line: what looks like its beginning counts in a string too.
 cck_reading='
     BEGIN {
         is_c = ENVIRON["cck_is_c"] != ""
@@ -743,11 +751,10 @@ cck_reading='
     function goes_on(line, begun, place) {
         while (match(line, /(^|[^A-Za-z0-9_])(u8|u|U|L)?R"[^ ()\\\t]*\(/)) {
             begun = substr(line, RSTART, RLENGTH - 1)
-            line = substr(line, RSTART + RLENGTH)
+            place = RSTART + index(begun, "R\"")
             begun = substr(begun, index(begun, "R\"") + 2)
-            place = index(line, ")" begun "\"")
-            if (place == 0) return 1
-            line = substr(line, place + length(begun) + 2)
+            if (index(substr(line, RSTART + RLENGTH), ")" begun "\"") == 0) return 1
+            line = substr(line, place)
         }
         return 0
     }'
@@ -760,6 +767,7 @@ cck_reading='
 # that is found in a directory of system headers only later has its shorter name from then on. A file between `<` and `>` is
 # named as what the compiler defines itself. A backslash or a quote in a name has a backslash before it, which nothing takes
 # away. A line directive enters no file; a marker in a source, or in a raw string over lines, is not told from one of gcc.
+# After the input has begun, a marker with another name that neither enters nor leaves a file is of a line directive.
 # With OpenMP or OpenACC the compiler expands macros in a pragma, which an operator may make of any line. In a pragma of
 # diagnostics or of visibility it expands none; one that turns a warning on may warn of a macro that the text does not show.
 # What is pasted after `> struct` is the name of a class, unless `struct` is a macro, or a parameter of that definition.
@@ -791,6 +799,11 @@ cck_judging='
         sub(/^# [0-9]+ "/, "", name)
         name = substr(name, 1, length(name) - length(flags) - 1)
         if (index(name, "\\")) reason = "other-file"
+        if (flags !~ /^ [12]/ && name != current) {
+            if (in_input || depth > 0) marks = 1
+            else if (current == "<command-line>") in_input = 1
+        }
+        current = name
         is_system = flags ~ / 3/
         is_own = index(name, ENVIRON["cck_own"]) == 1 && name !~ /\/\.\.\//
         is_of_project = !is_own && (index(name, "/usr/include/") != 1 || name ~ /\/\.\.\//)
