@@ -57,9 +57,9 @@ has_tools() {
         command -v "$cck_tool" > /dev/null || return 1
     done
     [ -n "$BASH_VERSION" ] || return 0
-    # Bash takes functions from the environment, also one that is named as a program.
+    # Bash takes functions from the environment, also one that is named as a program or a command of the shell.
     cck_exported=$(declare -F -x 2> /dev/null)$cck_newline
-    for cck_tool in "$cck_compiler" "$cck_program" "$@"; do
+    for cck_tool in "$cck_compiler" "$cck_program" "$@" command echo find printf read test wait; do
         case $cck_exported in
         *" $cck_tool$cck_newline"*) return 1 ;;
         esac
@@ -1109,8 +1109,8 @@ has_plain_names "$@" || cck_refused=offload
 # Assembler code can include its own file, and its object can name the preprocessed one, as with STABS.
 if is_assembler; then
     lacks '/cc[A-Za-z0-9]\{6\}\.s' "$cck_out" || cck_refused=temporary-name
-    # Debug information that is compressed does not show it.
-    case " $*" in *' -gz'*) cck_refused=temporary-name ;; esac
+    # Debug information may have the name, without line markers, and does not show it where it is compressed.
+    case " $* " in *' -P '*|*' -gz'*) cck_refused=temporary-name ;; esac
     reads_preprocessed_alone 2>/dev/null || cck_refused=assembler-include
 fi
 if [ $cck_status -ne 0 ] || [ -e "$cck_scratch/failed" ]; then
