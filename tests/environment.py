@@ -7,7 +7,7 @@ readelf of binutils; the table was made for gcc 12 and glibc 2.36 on x86-64.
   library logs (tests/real/getenv.c); those that the code of gcc, cc1, the assembler and their libraries gives to `getenv`;
   and those of the section "Environment Variables" of gcc's manual.
 - The names with `key` are exactly those of the lists of crates/cck_util/src/variables.rt and of
-  crates/cck_cache_command/src/environment.rt but for two lists of the latter: PASSED has exactly the names with `passed`,
+  crates/cck_cache/src/environment.rt but for two lists of the latter: PASSED has exactly the names with `passed`,
   and SEARCHED exactly those with `programs`, which lib/cckcc/miss.sh has in the context for which it keeps the paths of
   the compiler's programs.
 - No variable with `none` changes an output of some calls, whatever of some values it has.
@@ -24,7 +24,7 @@ sys.path.insert(0, os.path.join(os.path.dirname(os.path.abspath(__file__)), "rea
 from calls import TOP, WRAPPER, Room, difference  # noqa: E402
 
 TABLE = TOP + "/tests/real/variables.txt"
-LISTS = [TOP + "/crates/cck_util/src/variables.rt", TOP + "/crates/cck_cache_command/src/environment.rt"]
+LISTS = [TOP + "/crates/cck_util/src/variables.rt", TOP + "/crates/cck_cache/src/environment.rt"]
 SCRIPTS = [WRAPPER, TOP + "/lib/cckcc/miss.sh"]
 LIBRARY = TOP + "/tests/real/getenv.c"
 TREATMENTS = ("key", "passed", "programs", "directory", "none")

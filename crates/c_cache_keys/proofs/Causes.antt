@@ -1,8 +1,8 @@
 -- Each error has its cause.
 use Rattle.std.proofs.Common.{◌≡◌, inl, inr, false, sym, ap, subst, Option, None, Some}
 use Rattle.cck_path.specs.Bytes.{Bytes}
-use Rattle.cck_compiler.specs.Store.{Returned, Store, StoreLaws}
-use Rattle.cck_compiler.specs.declared.store.StoreError.TheVariants as store
+use Rattle.cck_util.specs.Store.{Returned, Store, StoreLaws}
+use Rattle.cck_util.specs.declared.store.StoreError.TheVariants as store
 use Rattle.c_cache_keys.proofs.Stored.{not_failed}
 use Rattle.c_cache_keys.specs.Call.{Call, CallResult, Fault, Keyed, ReturnsError, Why}
 use Rattle.c_cache_keys.specs.Hits.{Cause, ErrorsHaveCauses, of_damage, of_extra, of_input, of_marker, of_memory, of_store, of_text}

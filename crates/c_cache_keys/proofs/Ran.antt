@@ -7,7 +7,7 @@ use Rattle.cck_files.specs.Calls.{Keeps}
 use Rattle.cck_files.specs.FileMap.{FileMap}
 use Rattle.cck_files.proofs.CallsLemmas.{keeps_itself}
 use Rattle.cck_digest.specs.declared.key_error.KeyError.{KeyError}
-use Rattle.cck_compiler.specs.Store.{Store}
+use Rattle.cck_util.specs.Store.{Store}
 use Rattle.c_cache_keys.specs.Calls.{AreReturned, IsAfter, IsReturned, done_all}
 use Rattle.c_cache_keys.specs.Seen.{result_of}
 use Rattle.c_cache_keys.specs.Step.{Run}

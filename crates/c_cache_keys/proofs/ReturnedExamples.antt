@@ -9,7 +9,7 @@ use Rattle.cck_files.specs.FileMap.{FileMap}
 use Rattle.cck_digest.specs.declared.key_error.KeyError.{KeyError}
 use Rattle.cck_digest.specs.declared.key_error.KeyError.TheVariants as error
 use Rattle.cck_path.specs.Bytes.{lists_of}
-use Rattle.cck_compiler.specs.Store.{Store}
+use Rattle.cck_util.specs.Store.{Store}
 use Rattle.c_cache_keys.specs.Call.{Extra, ExtraFault, Input, ReturnsError, calls_of}
 use Rattle.c_cache_keys.specs.Calls.{AreReturned, IsAfter, call_in, done_all, done_in}
 use Rattle.c_cache_keys.specs.Hasher.{toolchain_key}

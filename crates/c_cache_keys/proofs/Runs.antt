@@ -7,7 +7,7 @@ use Rattle.std.proofs.lemmas.List.Elements.{Contains-append_left, Contains-appen
 use Rattle.cck_path.specs.Bytes.{Bytes}
 use Rattle.cck_entry.specs.Entry.{Entry, EntryText}
 use Rattle.cck_include.specs.Include.{Include}
-use Rattle.cck_compiler.specs.Store.{Returned, Store, StoreLaws}
+use Rattle.cck_util.specs.Store.{Returned, Store, StoreLaws}
 use Rattle.c_cache_keys.proofs.Elements.{first_in}
 use Rattle.c_cache_keys.proofs.HitPlain.{hit_plain}
 use Rattle.c_cache_keys.proofs.Stored.{none_computed, run_returns_stored}

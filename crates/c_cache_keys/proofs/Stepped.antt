@@ -5,7 +5,7 @@ use Rattle.std.specs.declared.alloc.Global.{Global}
 use Rattle.cck_files.proofs.CallsLemmas.{rose_earlier, rose_later}
 use Rattle.cck_files.specs.Calls.{Rose}
 use Rattle.cck_digest.specs.declared.key_error.KeyError.{KeyError}
-use Rattle.cck_compiler.specs.Store.{Store}
+use Rattle.cck_util.specs.Store.{Store}
 use Rattle.c_cache_keys.proofs.Widen.{wide_gives, wide_makes}
 use Rattle.c_cache_keys.specs.Asking.{IsFound, IsFoundBy, asked_of}
 use Rattle.c_cache_keys.specs.Call.{CallResult, Call, Keyed, ReturnsError, Memory}

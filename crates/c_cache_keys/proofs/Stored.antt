@@ -14,10 +14,10 @@ use Rattle.cck_include.specs.Include.{Include}
 use Rattle.cck_include.specs.Recorded.{recorded}
 use Rattle.cck_path.specs.Bytes.{Bytes}
 use Rattle.cck_path.specs.Path.{components}
-use Rattle.cck_compiler.specs.MapLemmas.{map_store_laws}
-use Rattle.cck_compiler.specs.MapStore.{State, call_begun, map_store}
-use Rattle.cck_compiler.specs.Store.{Returned, HoldsOnly, StoreFailure, Store, StoreLaws, Stored}
-use Rattle.cck_compiler.specs.declared.store.StoreError.{StoreError}
+use Rattle.cck_util.specs.MapLemmas.{map_store_laws}
+use Rattle.cck_util.specs.MapStore.{State, call_begun, map_store}
+use Rattle.cck_util.specs.Store.{Returned, HoldsOnly, StoreFailure, Store, StoreLaws, Stored}
+use Rattle.cck_util.specs.declared.store.StoreError.{StoreError}
 use Rattle.c_cache_keys.proofs.Elements.{all_pass, none_in}
 use Rattle.c_cache_keys.proofs.HitPlain.{components-named}
 use Rattle.c_cache_keys.proofs.Includes.{entries-alone, match_by_digest}

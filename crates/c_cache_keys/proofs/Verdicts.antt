@@ -5,7 +5,7 @@ use Rattle.std.proofs.lemmas.Option.{none-some, same_Some}
 use Rattle.cck_include.specs.Include.{Include}
 use Rattle.cck_markers.proofs.OneList.{one_list}
 use Rattle.cck_path.specs.Bytes.{Bytes}
-use Rattle.cck_compiler.specs.Store.{Store, Stored}
+use Rattle.cck_util.specs.Store.{Store, Stored}
 use Rattle.c_cache_keys.proofs.Decisions.{one_decision}
 use Rattle.c_cache_keys.proofs.Elements.{first_in, none_in}
 use Rattle.c_cache_keys.specs.Call.{Call}

@@ -1,7 +1,7 @@
 -- What holds for the faults of a part of a call holds for those of the whole call.
 use Rattle.std.proofs.Common.{inl, inr, Bool, Option}
 use Rattle.cck_include.specs.Include.{Include}
-use Rattle.cck_compiler.specs.Store.{Returned, Store}
+use Rattle.cck_util.specs.Store.{Returned, Store}
 use Rattle.c_cache_keys.specs.Call.{CallResult, Call, Why}
 use Rattle.c_cache_keys.specs.Step.{Gives, Makes, Stores, StopsMaking, StopsOpening, damaged, extra_fault, faulted, gives, input_fault, lacked, making_lacks, marker, matched, no_bytes, no_extra, no_input, no_key, no_text, no_used_input, none_recorded, nothing, opening_lacks, puts, refused, stops, store_failed, store_lacked, text_fault, unmatched, used_input_fault}
 use Rattle.cck_path.specs.Bytes.{Bytes}

@@ -8,10 +8,10 @@ use Rattle.cck_entry.specs.Results.{KeyResult}
 use Rattle.cck_files.specs.FileMap.{FileNode, file_at}
 use Rattle.cck_include.specs.Recorded.{has_time, has_timestamp}
 use Rattle.cck_path.specs.Path.{Path, components}
-use Rattle.cck_compiler.specs.MapLemmas.{map_store_laws}
-use Rattle.cck_compiler.specs.MapStore.{State, call_begun, map_store, empty_state}
+use Rattle.cck_util.specs.MapLemmas.{map_store_laws}
+use Rattle.cck_util.specs.MapStore.{State, call_begun, map_store, empty_state}
 use Rattle.cck_path.specs.Bytes.{Bytes}
-use Rattle.cck_compiler.specs.Store.{HoldsOnly, StoreFailure}
+use Rattle.cck_util.specs.Store.{HoldsOnly, StoreFailure}
 use Rattle.c_cache_keys.proofs.Runs.{headline, hit_is_plain, stays_sound}
 use Rattle.c_cache_keys.proofs.Stored.{fresh_is_held, map_store_returns_stored, stored_key_is_returned}
 use Rattle.c_cache_keys.proofs.Witness.{can_store, entry_is, entry_text, extra_is, first_step, found_again, matches_again, only_result, witness_bytes, witness_entry, witness_include, holds_entry, input_node, input_read, key_is, no_fault, plain_stamp, premises, same_parts, second_step, witness_object_key, witness_key, witness_size, asked_again}

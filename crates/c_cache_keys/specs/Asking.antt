@@ -4,7 +4,7 @@ use Rattle.std.specs.declared.alloc.Global.{Global}
 use Rattle.cck_include.specs.Include.{Include}
 use Rattle.cck_digest.specs.declared.key_error.KeyError.{KeyError}
 use Rattle.cck_path.specs.Bytes.{Bytes}
-use Rattle.cck_compiler.specs.Store.{Returned, Store}
+use Rattle.cck_util.specs.Store.{Returned, Store}
 use Rattle.c_cache_keys.specs.Call.{Call, CallResult, Keyed, ReturnsError}
 use Rattle.c_cache_keys.specs.Keys.{preprocessor_key_of}
 use Rattle.c_cache_keys.specs.Seen.{why_of}

@@ -4,7 +4,7 @@ use Rattle.cck_path.specs.Bytes.{variables_of}
 use Rattle.cck_files.specs.Calls.{Keeps}
 use Rattle.cck_files.specs.FileMap.{FileMap}
 use Rattle.cck_digest.specs.declared.key_error.KeyError.{KeyError}
-use Rattle.cck_compiler.specs.Store.{Store}
+use Rattle.cck_util.specs.Store.{Store}
 use Rattle.c_cache_keys.specs.Call as seen
 use Rattle.c_cache_keys.specs.Conditions.{request_of}
 use Rattle.c_cache_keys.specs.Hasher.{toolchain_key}

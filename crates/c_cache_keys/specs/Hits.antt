@@ -6,8 +6,8 @@ use Rattle.cck_files.specs.FileMap.{FileNode, file_at}
 use Rattle.cck_include.specs.Recorded.{recorded}
 use Rattle.cck_path.specs.Bytes.{Bytes}
 use Rattle.cck_path.specs.Path.{Path}
-use Rattle.cck_compiler.specs.MapStore.{State, call_begun, map_store}
-use Rattle.cck_compiler.specs.Store.{HoldsOnly, StoreFailure, Store}
+use Rattle.cck_util.specs.MapStore.{State, call_begun, map_store}
+use Rattle.cck_util.specs.Store.{HoldsOnly, StoreFailure, Store}
 use Rattle.c_cache_keys.specs.Call.{CallResult, Call, Done, Fault, Keyed, ReturnsError, calls_of, Why, Memory, Extra, Input, Store as StoreFails, Damaged, NoText, Marker}
 use Rattle.cck_util.specs.Language.{is_preprocessed_first}
 use Rattle.c_cache_keys.specs.Keys.{extra_texts, input_file, preprocessor_key_of, printed, uses_cache}

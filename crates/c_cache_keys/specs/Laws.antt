@@ -6,7 +6,7 @@ use Rattle.cck_path.specs.Bytes.{Bytes}
 use Rattle.cck_entry.specs.Entry.{Entry, EntryText}
 use Rattle.cck_entry.specs.Find.{found_in}
 use Rattle.cck_include.specs.Include.{Include}
-use Rattle.cck_compiler.specs.Store.{Returned, Store}
+use Rattle.cck_util.specs.Store.{Returned, Store}
 use Rattle.c_cache_keys.specs.Call.{CallResult, Call, Damaged, Done, Fault, Keyed, Memory, ReturnsError, calls_of}
 use Rattle.c_cache_keys.specs.Keys.{plain_key, preprocessor_key_of}
 use Rattle.c_cache_keys.specs.Premises.{Premises}

@@ -11,7 +11,7 @@ use Rattle.cck_digest.specs.declared.key_error.KeyError.TheVariants as error
 use Rattle.cck_digest.specs.declared.preprocess_error.PreprocessError.TheVariants as text
 use Rattle.cck_path.specs.Bytes.{Bytes}
 use Rattle.cck_path.specs.Path.{components}
-use Rattle.cck_compiler.specs.Store.{Store}
+use Rattle.cck_util.specs.Store.{Store}
 use Rattle.cck_digest.specs.declared.entry_error.Error.{Error}
 use Rattle.cck_digest.specs.declared.entry_error.Error.TheVariants as entry
 use Rattle.c_cache_keys.specs.Call.{Call}

@@ -8,7 +8,7 @@ use Rattle.cck_include.specs.Gathered.{Digested, gathered}
 use Rattle.cck_include.specs.Include.{Include}
 use Rattle.cck_path.specs.Bytes.{Bytes}
 use Rattle.cck_path.specs.Timestamp.{Moment}
-use Rattle.cck_compiler.specs.Store.{Store, Stored}
+use Rattle.cck_util.specs.Store.{Store, Stored}
 
 -- The text of the entry of this one result is put; or nothing is, where an included file is missing, there was a fault or memory is lacking.
 abbrev pub IsPut : {S : Type 0} → Store S → FileMap → Moment → List Digested → Bytes → Bytes → Type 0 → S → Result (Unit {0}) AllocError → S → Type 0

@@ -9,8 +9,8 @@ use Rattle.cck_path.specs.Bytes.{Bytes}
 use Rattle.cck_path.specs.Path.{Name, Path, Root, path_cmp}
 use Rattle.cck_path.specs.Timestamp.{Moment}
 use Rattle.cck_path.specs.declared.metadata.FileKind.TheVariants.{File}
-use Rattle.cck_compiler.specs.MapStore.{State, map_store, empty_state}
-use Rattle.cck_compiler.specs.Store.{StoreFailure}
+use Rattle.cck_util.specs.MapStore.{State, map_store, empty_state}
+use Rattle.cck_util.specs.Store.{StoreFailure}
 use Rattle.cck_include.specs.Config.{activated}
 use Rattle.cck_util.specs.declared.language.Language.TheVariants.{C}
 use Rattle.jiff.specs.Types.{UTC}

@@ -13,11 +13,12 @@ ghost use Rattle.c_cache_keys.specs.World.{world_of};
 
 use crate::call::{CacheControl, HashResult};
 use crate::hasher::CCompilerHasher;
-use cck_compiler::{CCompilerImpl, KeyError, PreprocessorStore};
+use cck_compiler::{CCompilerImpl, KeyError};
 use cck_digest::{HashState, UtilError};
 use cck_files::Files;
 use cck_include::PreprocessorCacheModeConfig;
 use cck_path::Timestamp;
+use cck_util::PreprocessorStore;
 use jiff::tz::TimeZone;
 use std::alloc::Global;
 

@@ -5,7 +5,7 @@ use cck_path::Timestamp;
 use jiff::tz::TimeZone;
 
 /// All that a call for a key takes beside the compilation, its files and its store.
-#[derive(Drop)]
+#[derive(Clone, Copy)]
 pub struct Conditions<'a> {
     /// The working directory.
     pub cwd: &'a [u8],

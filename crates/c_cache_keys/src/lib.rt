@@ -87,11 +87,12 @@ pub use c_compiler::CCompiler;
 pub use call::{CacheControl, HashResult};
 pub use calls::{Call, run_calls};
 pub use cck_compiler::{
-    ArtifactDescriptor, CCompilerImpl, CCompilerKind, ColorMode, CompilerArguments, EmptyStore,
-    KeyError, MapStore, ParsedArguments, PreprocessError, PreprocessorStore, StoreError, one_more,
+    ArtifactDescriptor, CCompilerImpl, CCompilerKind, ColorMode, CompilerArguments, KeyError,
+    ParsedArguments, PreprocessError,
 };
 pub use cck_entry;
 pub use cck_util;
+pub use cck_util::{EmptyStore, MapStore, PreprocessorStore, StoreError, one_more};
 pub use cck_walk::{
     LineAction, Records, Walk, process_preprocessed_file, process_preprocessor_line,
 };

@@ -31,7 +31,7 @@ pub struct KeyParams<'a> {
 }
 
 /// Why there is no key.
-#[derive(Debug, Clone, Copy, PartialEq, Eq)]
+#[derive(Clone, Copy, PartialEq, Eq)]
 pub(crate) enum ParamsError {
     /// Memory is lacking.
     Memory,

@@ -1,0 +1,7 @@
+pub mod CallLemmas
+pub mod IncludedLemmas
+pub mod InputLemmas
+pub mod LookLemmas
+pub mod NamingLemmas
+pub mod RecordLemmas
+pub mod RequestLemmas

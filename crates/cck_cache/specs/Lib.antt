@@ -1,0 +1,13 @@
+pub mod Call
+pub mod Changed
+pub mod EntryPlace
+pub mod Environment
+pub mod Included
+pub mod Input
+pub mod Judge
+pub mod Look
+pub mod Naming
+pub mod Outputs
+pub mod Record
+pub mod Request
+pub mod Response

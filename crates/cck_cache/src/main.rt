@@ -4,13 +4,40 @@
 //! the standard streams to [`run`]. What fails is printed on standard output as `error: ..`, with
 //! status 1, since standard error has the compiler's messages. What is wrong with the words is
 //! printed on standard error, with status 2.
+//!
+//! Each call works on a *snapshot*: the real files that it looks at are read into memory. Keys,
+//! look-ups and recordings are calls of `cck_snapshot` over them, over the bytes of one entry and over
+//! a text. What is missing from a snapshot can only make a look-up miss or a compilation be refused.
 #![tactic(auto)]
 
-use anyhow::{Result, bail};
-use cck_cache_command::{
-    Environment, compiler_variables, is_passed_on, knows_native, max_size, reads_all, run,
+mod call;
+mod changed;
+mod entry_place;
+mod environment;
+mod included;
+mod input;
+mod judge;
+mod look;
+mod naming;
+mod outputs;
+mod places;
+mod program;
+mod programs;
+mod record;
+mod request;
+mod response;
+mod seal;
+mod server_key;
+mod store;
+mod unpack;
+mod why;
+
+use crate::environment::{
+    Environment, compiler_variables, is_passed_on, knows_native, max_size, reads_all,
     search_variables, variables,
 };
+use crate::program::run;
+use anyhow::{Result, bail};
 use cck_path::Timestamp;
 use jiff::tz::{SystemTimeZone, TimeZoneDatabase};
 use std::process::ExitCode;

@@ -39,11 +39,19 @@ impl Kind {
 /// A store directory: `VERSION`, and the directories `entries`, `objects`, `counts` and `digests`,
 /// each of which is there once it has a file. In `entries` and `objects` a file is in a directory that
 /// is named by the first two digits of its key.
-#[derive(Drop)]
 pub struct StoreDirectory {
     directory: String,
     // The end of the names that this process alone gives to new files.
     suffix: String,
+}
+
+impl Drop for StoreDirectory {
+    fn drop(self) {
+        let StoreDirectory {
+            directory: _,
+            suffix: _,
+        } = self;
+    }
 }
 
 // Makes a file at a path. What is there, as after a process that was killed, is removed first: a new file has the mode of this

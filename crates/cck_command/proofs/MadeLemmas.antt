@@ -5,8 +5,8 @@ use Rattle.std.proofs.Math.Seq.{take-nil}
 use Rattle.std.proofs.lemmas.Grind.{flat_map-append}
 use Rattle.std.proofs.lemmas.List.{append-nil, length_push}
 use Rattle.cck_path.specs.Bytes.{Bytes}
-use Rattle.cck_compiler.specs.MapLemmas.{map_store_laws}
-use Rattle.cck_compiler.specs.MapStore.{State, map_store}
+use Rattle.cck_util.specs.MapLemmas.{map_store_laws}
+use Rattle.cck_util.specs.MapStore.{State, map_store}
 use Rattle.jiff.specs.Types.{Offset, TimeZone}
 use Rattle.jiff.specs.Words.{fixed_zone}
 use Rattle.cck_files.specs.FileState.{FileState, IsQuiet, fault_count}

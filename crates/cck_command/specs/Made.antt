@@ -15,7 +15,7 @@ use Rattle.c_cache_keys.specs.Step.{Run}
 use Rattle.c_cache_keys.specs.World.{World}
 use Rattle.c_cache_keys.specs.declared.c_compiler.CCompiler.{CCompiler}
 use Rattle.c_cache_keys.specs.declared.calls.Call.{Call}
-use Rattle.cck_compiler.specs.MapStore.{State, map_store}
+use Rattle.cck_util.specs.MapStore.{State, map_store}
 use Rattle.cck_command.specs.MiniCompiler.{parsed}
 use Rattle.cck_command.specs.Run.{IsRequested, result_line, control_of}
 use Rattle.cck_command.specs.declared.mini_compiler.MiniCompiler.{MiniCompiler}

@@ -7,7 +7,7 @@ use Rattle.cck_compiler.specs.Compiler.{Compilation}
 use Rattle.cck_compiler.specs.ExtraFiles.{completed}
 use Rattle.cck_files.specs.ArmedCalls.{new_armed}
 use Rattle.cck_path.specs.Bytes.{Bytes}
-use Rattle.cck_compiler.specs.MapStore.{State, map_store, empty_state}
+use Rattle.cck_util.specs.MapStore.{State, map_store, empty_state}
 use Rattle.jiff.specs.Words.{fixed_zone}
 use Rattle.jiff.specs.Types.{Offset}
 use Rattle.cck_digest.specs.Digest.{digest_text}

@@ -3,7 +3,7 @@ ghost use Rattle.std.specs.Prelude.{◌≡◌, ◌↔◌, ◌∷◌, [], List, �
 ghost use Rattle.std.specs.Option.{option_to_list, unwrap_or};
 ghost use Rattle.cck_files.specs.ArmedCalls.{new_armed};
 ghost use Rattle.cck_path.specs.Bytes.{lists_of};
-ghost use Rattle.cck_compiler.specs.MapStore.{empty_state};
+ghost use Rattle.cck_util.specs.MapStore.{empty_state};
 ghost use Rattle.jiff_core.specs.Timestamp.{IsOffsetSeconds};
 ghost use Rattle.jiff.specs.Words.{fixed_zone, plain_zone};
 ghost use Rattle.jiff.specs.Types.{Offset as PlainOffset};

@@ -6,4 +6,3 @@ pub mod FileExamples
 pub mod ListLemmas
 mod OutputEquality
 pub mod Outputs
-pub mod MapEntries

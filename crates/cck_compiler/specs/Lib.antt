@@ -2,9 +2,3 @@ pub mod Arguments
 pub mod Compiler
 pub mod ExtraFiles
 pub mod Seen
-pub mod Counts
-pub mod EmptyLemmas
-pub mod EmptyStore
-pub mod MapLemmas
-pub mod MapStore
-pub mod Store

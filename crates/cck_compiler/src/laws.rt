@@ -2,7 +2,7 @@
 ghost use Rattle.std.specs.Prelude.{◌≡◌, ◌↔◌, IsTrue};
 ghost use Rattle.cck_compiler.specs.Seen.{arguments_of};
 
-use crate::{ArtifactDescriptor, CCompilerKind, ColorMode, ParsedArguments, StoreError};
+use crate::{ArtifactDescriptor, CCompilerKind, ColorMode, ParsedArguments};
 
 /// Two values of [`ParsedArguments`] are equal exactly if all their fields say the same, byte for
 /// byte.
@@ -27,9 +27,4 @@ pub fn c_compiler_kind_equality_is_exact()
 /// Two [`ColorMode`]s are equal exactly if they are the same.
 pub fn color_mode_equality_is_exact()
     ensures { (a b : ColorMode) → IsTrue (⟦<ColorMode as PartialEq>⟧.eq a b) ↔ (a ≡ b) }
-{}
-
-/// Two [`StoreError`]s are equal exactly if they are the same.
-pub fn store_error_equality_is_exact()
-    ensures { (a b : StoreError) → IsTrue (⟦<StoreError as PartialEq>⟧.eq a b) ↔ (a ≡ b) }
 {}

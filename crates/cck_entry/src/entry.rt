@@ -32,12 +32,21 @@ const MAX_PREPROCESSOR_CACHE_FILE_INFO_ENTRIES: usize = 10_000;
 /// It is built by [`PreprocessorCacheEntry::add_result`] alone, or read from bytes.
 ///
 /// Upstream's `preprocessor_cache::PreprocessorCacheEntry`.
-#[derive(Drop)]
 pub struct PreprocessorCacheEntry {
     alloc: Global,
     /// How many includes all results have together.
     number_of_entries: usize,
     results: Results,
+}
+
+impl Drop for PreprocessorCacheEntry {
+    fn drop(self) {
+        let PreprocessorCacheEntry {
+            alloc: _,
+            number_of_entries: _,
+            results: _,
+        } = self;
+    }
 }
 
 impl Model for PreprocessorCacheEntry {

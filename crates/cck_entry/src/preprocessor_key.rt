@@ -28,7 +28,6 @@ use std::marker::Model;
 pub const FORMAT_VERSION: u8 = 2;
 
 /// The parts of a request that are hashed for its key, besides those that depend on files.
-#[derive(Drop)]
 pub struct PreprocessorKeyRequest<'a> {
     /// The hex digest of the compiler.
     pub compiler_digest: &'a str,
@@ -52,6 +51,24 @@ pub struct PreprocessorKeyRequest<'a> {
     pub input_file: &'a [u8],
     /// The working directory, if it is part of the key.
     pub directory: Option<&'a [u8]>,
+}
+
+impl Drop for PreprocessorKeyRequest<'_> {
+    fn drop(self) {
+        let PreprocessorKeyRequest {
+            compiler_digest: _,
+            plusplus: _,
+            language: _,
+            multiarch: _,
+            preprocessor_args: _,
+            arch_args: _,
+            common_args: _,
+            assembler_digest: _,
+            env_vars: _,
+            input_file: _,
+            directory: _,
+        } = self;
+    }
 }
 
 impl<'a> Model for PreprocessorKeyRequest<'a> {

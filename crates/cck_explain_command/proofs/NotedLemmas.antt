@@ -5,8 +5,8 @@ use Rattle.std.proofs.lemmas.Slice.Zip.{AllZip-long}
 use Rattle.cck_path.specs.Bytes.{Bytes}
 use Rattle.cck_files.specs.FileState.{FileState, IsQuiet, fault_count}
 use Rattle.cck_include.specs.Setting.{setting_in}
-use Rattle.cck_compiler.specs.MapStore.{State, map_store}
-use Rattle.cck_compiler.specs.Store.{counted}
+use Rattle.cck_util.specs.MapStore.{State, map_store}
+use Rattle.cck_util.specs.Store.{counted}
 use Rattle.cck_script.specs.Calls.{ScriptCallValue}
 use Rattle.cck_include.specs.Config.{activated}
 use Rattle.cck_include.specs.declared.config.PreprocessorCacheModeConfig.{PreprocessorCacheModeConfig}

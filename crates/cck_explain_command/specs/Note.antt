@@ -8,9 +8,9 @@ use Rattle.cck_explain_listing.specs.Quoted.{quoted}
 use Rattle.cck_files.specs.FileMap.{FileMap}
 use Rattle.cck_include.specs.Setting.{Setting}
 use Rattle.cck_path.specs.Bytes.{Bytes}
-use Rattle.cck_compiler.specs.Store.{Returned, Stored, returned_by}
-use Rattle.cck_compiler.specs.declared.store.StoreError.{StoreError}
-use Rattle.cck_compiler.specs.declared.store.StoreError.TheVariants as store
+use Rattle.cck_util.specs.Store.{Returned, Stored, returned_by}
+use Rattle.cck_util.specs.declared.store.StoreError.{StoreError}
+use Rattle.cck_util.specs.declared.store.StoreError.TheVariants as store
 use Rattle.cck_digest.specs.declared.entry_error.Error.{Error}
 use Rattle.cck_digest.specs.declared.entry_error.Error.TheVariants.{Memory}
 use Rattle.cck_explain_command.specs.Judged.{AreJudgedResults, Judged, JudgedResult}

@@ -9,8 +9,8 @@ use Rattle.cck_path.specs.Bytes.{Bytes}
 use Rattle.cck_script.specs.Calls.{ScriptCallValue, script_calls}
 use Rattle.cck_script.specs.Lines.{Line}
 use Rattle.cck_script.specs.Script.{zone_of}
-use Rattle.cck_compiler.specs.MapStore.{State, map_store}
-use Rattle.cck_compiler.specs.Store.{counted}
+use Rattle.cck_util.specs.MapStore.{State, map_store}
+use Rattle.cck_util.specs.Store.{counted}
 use Rattle.jiff.specs.Types.{Offset}
 use Rattle.cck_explain_command.specs.Note.{IsNote}
 

@@ -7,19 +7,19 @@ ghost use Rattle.cck_include.specs.Include.{include_in, includes_in};
 ghost use Rattle.cck_include.specs.JudgeContext.{setting_of};
 ghost use Rattle.cck_include.specs.Known.{AreKnown};
 ghost use Rattle.cck_path.specs.Bytes.{Bytes};
-ghost use Rattle.cck_compiler.specs.Store.{returned_by};
+ghost use Rattle.cck_util.specs.Store.{returned_by};
 ghost use Rattle.cck_explain_command.specs.declared.difference.Difference.{Difference as DifferenceValue};
 ghost use Rattle.cck_explain_command.specs.Judged.{AreJudged, AreJudgedResults, IsCalm, IsJudged, Judged, JudgedResult};
 ghost use Rattle.cck_explain_command.specs.Note.{AreCallsNoted, IsCallNoted, IsEntryNoted, IsReturnedNoted, change_word, failure_word, head_line, include_line, key_of, not_asked_line, put_line, result_lines, store_call};
 
 use crate::difference::{Difference, difference_of};
 use crate::watched_store::WatchedCall;
-use cck_compiler::StoreError;
 use cck_digest::{Error, HashState};
 use cck_entry::PreprocessorCacheEntry;
 use cck_explain_listing::push_quoted;
 use cck_files::Files;
 use cck_include::{IncludeEntry, JudgeContext, KnownFiles};
+use cck_util::StoreError;
 use std::alloc::{AllocError, Global};
 use std::collections::BTreeMap;
 

@@ -3,8 +3,8 @@ ghost use Rattle.std.specs.Prelude.{◌≡◌, ◌+◌, ◌∷◌, ◌++◌, [],
 ghost use Rattle.cck_path.specs.Bytes.{lists_of};
 ghost use Rattle.cck_files.specs.FileState.{IsQuiet, fault_count};
 ghost use Rattle.cck_include.specs.Setting.{setting_in};
-ghost use Rattle.cck_compiler.specs.MapStore.{State};
-ghost use Rattle.cck_compiler.specs.Store.{counted};
+ghost use Rattle.cck_util.specs.MapStore.{State};
+ghost use Rattle.cck_util.specs.Store.{counted};
 ghost use Rattle.jiff.specs.Words.{plain_zone};
 ghost use Rattle.cck_script.specs.Calls.{ScriptCallValue};
 ghost use Rattle.cck_script.specs.Script.{IsScriptError, commands_of, wrong_line};

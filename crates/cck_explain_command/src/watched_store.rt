@@ -1,7 +1,7 @@
 //! A store that keeps what is asked of it.
 ghost use Rattle.std.specs.Prelude.{◌≡◌};
 
-use cck_compiler::{MapStore, PreprocessorStore, StoreError};
+use cck_util::{MapStore, PreprocessorStore, StoreError};
 use std::alloc::{AllocError, Global};
 use std::marker::Model;
 use std::mem;
@@ -72,7 +72,7 @@ impl Drop for WatchedStore {
 }
 
 impl Model for WatchedStore {
-    ghost use Rattle.cck_compiler.specs.MapStore.{State, coded_map_state};
+    ghost use Rattle.cck_util.specs.MapStore.{State, coded_map_state};
 
     ghost Value = { State };
 
@@ -136,8 +136,8 @@ impl WatchedStore {
 }
 
 impl PreprocessorStore for WatchedStore {
-    ghost use Rattle.cck_compiler.specs.MapStore.{map_store};
-    ghost use Rattle.cck_compiler.specs.MapLemmas.{map_store_laws};
+    ghost use Rattle.cck_util.specs.MapStore.{map_store};
+    ghost use Rattle.cck_util.specs.MapLemmas.{map_store_laws};
 
     ghost store = { map_store };
 

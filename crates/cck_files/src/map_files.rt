@@ -30,13 +30,24 @@ use places::Place;
 /// [`fail_after`](MapFiles::fail_after). An armed call is a fault and changes no file, and no other
 /// call is a fault. Each fault adds one to the count of faults, a `u64`, until that is `u64::MAX`.
 /// The files are quiet if no call is armed and the count is below `u64::MAX`.
-#[derive(Debug, Drop)]
+#[derive(Debug)]
 pub struct MapFiles {
     alloc: Global,
     // A new path moves entries of the map. With boxes these are small.
     places: PathMap<Box<Place>>,
     faults: u64,
     armed: ArmedCalls,
+}
+
+impl Drop for MapFiles {
+    fn drop(self) {
+        let MapFiles {
+            alloc: _,
+            places: _,
+            faults: _,
+            armed: _,
+        } = self;
+    }
 }
 
 impl Model for MapFiles {

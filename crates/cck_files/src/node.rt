@@ -7,7 +7,7 @@ use cck_path::{FileKind, Timestamp};
 use std::alloc::Global;
 
 /// The node at a path of [`MapFiles`](crate::MapFiles).
-#[derive(Debug, Drop, PartialEq, Eq)]
+#[derive(Debug, PartialEq, Eq)]
 pub struct Node {
     /// Its kind.
     pub kind: FileKind,
@@ -19,6 +19,17 @@ pub struct Node {
     /// When its contents or its status (its links and rights) last changed, as POSIX's `st_ctim`,
     /// where known.
     pub changed: Option<Timestamp>,
+}
+
+impl Drop for Node {
+    fn drop(self) {
+        let Node {
+            kind: _,
+            contents: _,
+            modified: _,
+            changed: _,
+        } = self;
+    }
 }
 
 impl Node {

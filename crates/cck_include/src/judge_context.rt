@@ -4,7 +4,7 @@ use cck_path::Timestamp;
 use jiff::tz::TimeZone;
 
 /// What files are judged by, besides their own contents and metadata.
-#[derive(Drop)]
+#[derive(Clone, Copy)]
 pub struct JudgeContext<'a> {
     /// The call time.
     pub moment: Timestamp,

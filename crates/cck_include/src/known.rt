@@ -15,7 +15,7 @@ use std::alloc::{AllocError, Global};
 ///
 /// It is valid for the files, the call time, the zone, the variables and the options of the calls
 /// that found it. For others a new value is needed.
-#[derive(Debug)]
+#[derive(Debug, Drop)]
 pub struct KnownFiles {
     // In the order in which they were found.
     pub(crate) files: Vec<KnownFile>,
@@ -25,33 +25,13 @@ pub struct KnownFiles {
     next: usize,
 }
 
-impl Drop for KnownFiles {
-    fn drop(self) {
-        let KnownFiles {
-            files: _,
-            places: _,
-            next: _,
-        } = self;
-    }
-}
-
 /// What was found at a path.
-#[derive(Debug)]
+#[derive(Debug, Drop)]
 pub(crate) struct KnownFile {
     pub(crate) path: Vec<u8>,
     pub(crate) metadata: Metadata,
     // The recorded digest, or that there is none, once it was asked for.
     pub(crate) digest: Option<Option<String>>,
-}
-
-impl Drop for KnownFile {
-    fn drop(self) {
-        let KnownFile {
-            path: _,
-            metadata: _,
-            digest: _,
-        } = self;
-    }
 }
 
 impl KnownFiles {

@@ -33,11 +33,21 @@ pub enum Mark<'a> {
 /// ```rust
 /// Markers::new(b"# 1 \"a.h\" 3\n.incbin \"f\"") // the name `a.h`, of a system header; `Refusal`
 /// ```
-#[derive(Debug, Drop)]
+#[derive(Debug)]
 pub struct Markers<'a> {
     rest: &'a [u8],
     starts_line: bool,
     searches: Searches,
+}
+
+impl Drop for Markers<'_> {
+    fn drop(self) {
+        let Markers {
+            rest: _,
+            starts_line: _,
+            searches: _,
+        } = self;
+    }
 }
 
 impl<'a> Model for Markers<'a> {

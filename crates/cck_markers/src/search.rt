@@ -18,10 +18,16 @@ const INCLUSION: &[u8] = b".incbin";
 // A search for a word in the rest of a text. `left` is the number of bytes from the place where the
 // word was found last to the end. It is 0 if there was no such place, and more than a text has
 // before the first search.
-#[derive(Debug, Drop)]
+#[derive(Debug)]
 struct WordFinder {
     finder: Finder<'static>,
     left: usize,
+}
+
+impl Drop for WordFinder {
+    fn drop(self) {
+        let WordFinder { finder: _, left: _ } = self;
+    }
 }
 
 impl WordFinder {
@@ -131,11 +137,21 @@ fn first_byte(byte: u8, text: &[u8]) -> Option<usize>
 }
 
 /// The searches for all that isn't a plain byte.
-#[derive(Debug, Drop)]
+#[derive(Debug)]
 pub(crate) struct Searches {
     marker: MarkerSearch,
     hidden: WordFinder,
     inclusion: WordFinder,
+}
+
+impl Drop for Searches {
+    fn drop(self) {
+        let Searches {
+            marker: _,
+            hidden: _,
+            inclusion: _,
+        } = self;
+    }
 }
 
 impl Searches {

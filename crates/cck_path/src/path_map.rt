@@ -27,11 +27,21 @@ pub struct Entry<V> {
 /// With n paths a look-up compares about log n of them. A new path and a removal also move entries
 /// of one block, which has at most 128 unless there was no memory to split it, and sometimes the
 /// list of blocks.
-#[derive(Debug, Drop)]
+#[derive(Debug)]
 pub struct PathMap<V> {
     alloc: Global,
     count: usize,
     blocks: Vec<Vec<Entry<V>>>,
+}
+
+impl<V: Drop> Drop for PathMap<V> {
+    fn drop(self) {
+        let PathMap {
+            alloc: _,
+            count: _,
+            blocks: _,
+        } = self;
+    }
 }
 
 impl<V> Model for PathMap<V> {

@@ -3,8 +3,8 @@ use Rattle.std.proofs.Common.{◌≡◌, ℕ, inl, inr, false, true, [], ◌∷�
 use Rattle.std.specs.FinMap.{empty}
 use Rattle.cck_entry.specs.Entry.{Entry, EntryText, added}
 use Rattle.cck_path.specs.Bytes.{Bytes}
-use Rattle.cck_compiler.specs.MapStore.{empty_state, map_store}
-use Rattle.cck_compiler.specs.Store.{Store, StoreLaws, Stored}
+use Rattle.cck_util.specs.MapStore.{empty_state, map_store}
+use Rattle.cck_util.specs.Store.{Store, StoreLaws, Stored}
 use Rattle.c_cache_keys.proofs.Includes.{added_alone}
 use Rattle.c_cache_keys.specs.Call.{CallResult, Done, Fault, Keyed}
 use Rattle.c_cache_keys.specs.Step.{Ends, Gives, OwnPair, Step}

@@ -1,7 +1,7 @@
 -- A hit doesn't depend on what is printed.
 use Rattle.std.proofs.Common.{◌≡◌, List, true, false, refl, ◌∙◌}
 use Rattle.cck_path.specs.Bytes.{Bytes}
-use Rattle.cck_compiler.specs.Store.{Store}
+use Rattle.cck_util.specs.Store.{Store}
 use Rattle.cck_include.specs.declared.config.PreprocessorCacheModeConfig.{PreprocessorCacheModeConfig}
 use Rattle.jiff.specs.Types.{TimeZone}
 use Rattle.c_cache_keys.proofs.Stored.{not_failed}

@@ -11,7 +11,7 @@ use Rattle.cck_entry.specs.Results.{KeyResult}
 use Rattle.cck_include.specs.Include.{Include}
 use Rattle.cck_path.specs.Bytes.{Bytes}
 use Rattle.cck_path.specs.TextOrder.{text_cmp}
-use Rattle.cck_compiler.specs.Store.{Returned, Store, StoreLaws, Stored}
+use Rattle.cck_util.specs.Store.{Returned, Store, StoreLaws, Stored}
 use Rattle.c_cache_keys.proofs.Elements.{first_in, only_one}
 use Rattle.c_cache_keys.proofs.HitPlain.{hit_plain, only_result}
 use Rattle.c_cache_keys.proofs.Includes.{added_alone, entries-alone}

@@ -8,7 +8,7 @@ use Rattle.cck_entry.specs.Find.{IsLookup}
 use Rattle.cck_entry.specs.Statuses.{Statuses}
 use Rattle.cck_files.specs.FileMap.{FileMap}
 use Rattle.cck_path.specs.Bytes.{Bytes, lists_of}
-use Rattle.cck_compiler.specs.MapStore.{call_begun, map_store}
+use Rattle.cck_util.specs.MapStore.{call_begun, map_store}
 use Rattle.jiff.specs.Words.{plain_zone}
 use Rattle.c_cache_keys.proofs.KeySame.{input_known, key_known, material_known}
 use Rattle.c_cache_keys.specs.Call.{Call, Keyed}

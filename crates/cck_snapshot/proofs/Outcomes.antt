@@ -7,7 +7,7 @@ use Rattle.cck_entry.specs.Entry.{Entry, EntryText}
 use Rattle.cck_entry.specs.Find.{found_in}
 use Rattle.cck_include.specs.Include.{Include}
 use Rattle.cck_path.specs.Bytes.{Bytes}
-use Rattle.cck_compiler.specs.Store.{Returned, Store, Stored}
+use Rattle.cck_util.specs.Store.{Returned, Store, Stored}
 use Rattle.c_cache_keys.proofs.Runs.{nothing_damaged}
 use Rattle.c_cache_keys.proofs.Stored.{none_computed, not_failed}
 use Rattle.c_cache_keys.specs.Call.{Call, CallResult, Damaged, Done, Fault, Keyed, ReturnsError, Why}

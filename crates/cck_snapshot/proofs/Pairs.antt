@@ -7,7 +7,7 @@ use Rattle.std.specs.Ordering.{is_eq}
 use Rattle.std.proofs.lemmas.Option.{none-some, same_Some}
 use Rattle.cck_path.specs.Bytes.{Bytes}
 use Rattle.cck_path.specs.TextOrder.{text_cmp}
-use Rattle.cck_compiler.specs.MapStore.{State, call_begun, empty_state}
+use Rattle.cck_util.specs.MapStore.{State, call_begun, empty_state}
 use Rattle.cck_snapshot.specs.Snapshot.{one_pair}
 
 -- what is found under a key

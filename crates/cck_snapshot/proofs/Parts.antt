@@ -20,9 +20,9 @@ use Rattle.cck_include.specs.Recorded.{recorded}
 use Rattle.cck_include.specs.Setting.{Setting}
 use Rattle.cck_path.specs.Bytes.{Bytes}
 use Rattle.cck_path.specs.Path.{Path, components}
-use Rattle.cck_compiler.specs.MapStore.{IsGot, State, map_store, empty_state}
+use Rattle.cck_util.specs.MapStore.{IsGot, State, map_store, empty_state}
 use Rattle.cck_entry.specs.PreprocessorKey.{preprocessor_material}
-use Rattle.cck_compiler.specs.Store.{Returned}
+use Rattle.cck_util.specs.Store.{Returned}
 use Rattle.cck_util.specs.Key.{material}
 use Rattle.c_cache_keys.proofs.Elements.{all_pass, each_passes}
 use Rattle.c_cache_keys.proofs.HitPlain.{only_result}

@@ -11,7 +11,7 @@ use Rattle.cck_files.specs.FileMap.{FileMap}
 use Rattle.cck_include.specs.Include.{Include}
 use Rattle.cck_path.specs.Bytes.{Bytes}
 use Rattle.cck_path.specs.TextOrder.{text_cmp}
-use Rattle.cck_compiler.specs.MapStore.{IsGot, State, map_store}
+use Rattle.cck_util.specs.MapStore.{IsGot, State, map_store}
 use Rattle.c_cache_keys.specs.Call.{Call, CallResult, Done, Fault, Keyed}
 use Rattle.c_cache_keys.specs.Keys.{plain_key, preprocessor_key_of}
 use Rattle.c_cache_keys.specs.Premises.{Premises}

@@ -13,7 +13,7 @@ use Rattle.cck_include.specs.Include.{Include}
 use Rattle.cck_path.specs.Bytes.{Bytes}
 use Rattle.cck_path.specs.Path.{components}
 use Rattle.cck_path.specs.declared.metadata.Metadata.{Metadata}
-use Rattle.cck_compiler.specs.Store.{Returned, Store, StoreLaws, Stored}
+use Rattle.cck_util.specs.Store.{Returned, Store, StoreLaws, Stored}
 use Rattle.std.proofs.lemmas.List.Elements.{Contains-append_left, Contains-append_right}
 use Rattle.c_cache_keys.proofs.Elements.{first_in, later_in, one_of, only_one}
 use Rattle.c_cache_keys.proofs.Includes.{same_ok}

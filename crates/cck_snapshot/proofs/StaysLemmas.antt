@@ -11,7 +11,7 @@ use Rattle.cck_entry.proofs.LawLemmas.{one_text_one_entry}
 use Rattle.cck_entry.specs.Entry.{Entry, EntryText, added, is_over}
 use Rattle.cck_include.specs.Include.{Include}
 use Rattle.cck_path.specs.Bytes.{Bytes}
-use Rattle.cck_compiler.specs.Store.{HoldsOnly, Returned, Store, StoreFailure, StoreLaws, Stored}
+use Rattle.cck_util.specs.Store.{HoldsOnly, Returned, Store, StoreFailure, StoreLaws, Stored}
 use Rattle.c_cache_keys.proofs.Elements.{all_pass, first_in, later_in}
 use Rattle.c_cache_keys.proofs.Stored.{calm_part, record_matches, same_key, stored_key_is_returned, stores_own}
 use Rattle.c_cache_keys.specs.Call.{Call, CallResult, Done, Fault, Keyed}

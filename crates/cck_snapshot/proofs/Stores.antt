@@ -12,9 +12,9 @@ use Rattle.cck_entry.specs.Statuses.{Statuses}
 use Rattle.cck_include.specs.Include.{Include}
 use Rattle.cck_path.specs.Bytes.{Bytes}
 use Rattle.cck_path.specs.TextOrder.{text_cmp}
-use Rattle.cck_compiler.specs.MapStore.{IsGot, IsMapPut, State, call_begun, map_store, empty_state, count_failure}
-use Rattle.cck_compiler.specs.Store.{Returned, Store, Stored}
-use Rattle.cck_compiler.specs.declared.store.StoreError.TheVariants as store
+use Rattle.cck_util.specs.MapStore.{IsGot, IsMapPut, State, call_begun, map_store, empty_state, count_failure}
+use Rattle.cck_util.specs.Store.{Returned, Store, Stored}
+use Rattle.cck_util.specs.declared.store.StoreError.TheVariants as store
 use Rattle.c_cache_keys.proofs.Stored.{not_both, not_failed, same_key}
 use Rattle.c_cache_keys.specs.Call.{Call, CallResult, Fault, Keyed}
 use Rattle.c_cache_keys.specs.Keys.{preprocessor_key_of}

@@ -7,9 +7,9 @@ use Rattle.cck_include.specs.Include.{Include}
 use Rattle.cck_include.specs.Recorded.{recorded}
 use Rattle.cck_path.specs.Bytes.{Bytes}
 use Rattle.cck_path.specs.Path.{Path}
-use Rattle.cck_compiler.specs.MapStore.{map_store, empty_state}
-use Rattle.cck_compiler.specs.Store.{Stored}
-use Rattle.cck_compiler.specs.declared.store.StoreError.TheVariants as store
+use Rattle.cck_util.specs.MapStore.{map_store, empty_state}
+use Rattle.cck_util.specs.Store.{Stored}
+use Rattle.cck_util.specs.declared.store.StoreError.TheVariants as store
 use Rattle.cck_include.specs.declared.config.PreprocessorCacheModeConfig.{PreprocessorCacheModeConfig}
 use Rattle.cck_digest.specs.Digest.{digest_text}
 use Rattle.cck_util.specs.Key.{material}

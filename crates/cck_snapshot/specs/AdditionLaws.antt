@@ -5,8 +5,8 @@ use Rattle.cck_entry.specs.Entry.{Entry, EntryText}
 use Rattle.cck_entry.specs.Statuses.{Statuses}
 use Rattle.cck_files.specs.FileMap.{FileMap}
 use Rattle.cck_path.specs.Bytes.{Bytes}
-use Rattle.cck_compiler.specs.MapStore.{State, empty_state, map_store}
-use Rattle.cck_compiler.specs.Store.{Store, Stored}
+use Rattle.cck_util.specs.MapStore.{State, empty_state, map_store}
+use Rattle.cck_util.specs.Store.{Store, Stored}
 use Rattle.c_cache_keys.specs.Call.{Call, CallResult, Done, Fault, Keyed, calls_of}
 use Rattle.c_cache_keys.specs.Keys.{plain_key}
 use Rattle.c_cache_keys.specs.Laws.{IsTransparent}

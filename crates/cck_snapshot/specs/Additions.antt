@@ -4,7 +4,7 @@ use Rattle.std.specs.FinMap.{empty, insert}
 use Rattle.cck_entry.specs.Entry.{Entry, EntryText, added}
 use Rattle.cck_include.specs.Include.{Include}
 use Rattle.cck_path.specs.Bytes.{Bytes}
-use Rattle.cck_compiler.specs.Store.{Store}
+use Rattle.cck_util.specs.Store.{Store}
 use Rattle.cck_snapshot.specs.Laws.{HasOneResult}
 
 -- the bytes are the text of no entry

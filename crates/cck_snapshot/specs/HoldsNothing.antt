@@ -2,7 +2,7 @@
 use Rattle.std.specs.Prelude.{Some, Ok}
 use Rattle.std.proofs.Common.{inr, lit<, lit≤, le_refl}
 use Rattle.cck_path.specs.Bytes.{Bytes}
-use Rattle.cck_compiler.specs.Store.{Returned, Store, StoreFailure, StoreLaws, Stored}
+use Rattle.cck_util.specs.Store.{Returned, Store, StoreFailure, StoreLaws, Stored}
 
 -- a store that holds nothing, with these gets and puts: its count of store failures is always the greatest
 abbrev pub holds_nothing : {S : Type 0} → (S → Bytes → Returned → S → Type 0) → (S → Bytes → Bytes → Stored → S → Type 0) → Store S

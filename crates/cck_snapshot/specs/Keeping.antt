@@ -4,7 +4,7 @@ use Rattle.std.specs.FinMap.{empty, entries, insert}
 use Rattle.cck_entry.specs.Entry.{Entry, EntryText, added}
 use Rattle.cck_include.specs.Include.{Include}
 use Rattle.cck_path.specs.Bytes.{Bytes}
-use Rattle.cck_compiler.specs.Store.{Store, StoreFailure, Stored}
+use Rattle.cck_util.specs.Store.{Store, StoreFailure, Stored}
 use Rattle.c_cache_keys.specs.Call.{Call, CallResult, Done, Fault}
 use Rattle.c_cache_keys.specs.Step.{Chain, OwnPair, Step}
 use Rattle.c_cache_keys.specs.World.{World}

@@ -6,7 +6,7 @@ use Rattle.cck_entry.specs.Entry.{Entry, EntryText, is_over}
 use Rattle.cck_entry.specs.Find.{found_in}
 use Rattle.cck_include.specs.Include.{Include}
 use Rattle.cck_path.specs.Bytes.{Bytes}
-use Rattle.cck_compiler.specs.Store.{HoldsOnly, Store, StoreFailure}
+use Rattle.cck_util.specs.Store.{HoldsOnly, Store, StoreFailure}
 use Rattle.c_cache_keys.specs.Call.{Call, CallResult, Done, Fault, Keyed, calls_of}
 use Rattle.c_cache_keys.specs.Hits.{CanStore, SameRecords}
 use Rattle.c_cache_keys.specs.Keys.{plain_key, preprocessor_key_of}

@@ -2,8 +2,8 @@
 use Rattle.std.specs.Prelude.{◌≡◌, Option, Some, None, Result, Ok, Err, option_map}
 use Rattle.std.specs.declared.alloc.AllocError.{AllocError}
 use Rattle.cck_path.specs.Bytes.{Bytes}
-use Rattle.cck_compiler.specs.Store.{Returned, Store, StoreLaws, Stored}
-use Rattle.cck_compiler.specs.declared.store.StoreError.TheVariants as store
+use Rattle.cck_util.specs.Store.{Returned, Store, StoreLaws, Stored}
+use Rattle.cck_util.specs.declared.store.StoreError.TheVariants as store
 use Rattle.cck_snapshot.specs.HoldsNothing.{holds_nothing, holds_nothing_laws}
 use Rattle.cck_snapshot.specs.Recordings.{entry_pair}
 use Rattle.cck_snapshot.specs.declared.recordings.RecordedEntry.{RecordedEntry}

@@ -9,8 +9,8 @@ use Rattle.cck_include.specs.Include.{Include}
 use Rattle.cck_include.specs.Recorded.{is_timed}
 use Rattle.cck_path.specs.Bytes.{Bytes}
 use Rattle.cck_path.specs.Path.{components}
-use Rattle.cck_compiler.specs.MapStore.{State, map_store, empty_state}
-use Rattle.cck_compiler.specs.Store.{Store, Stored}
+use Rattle.cck_util.specs.MapStore.{State, map_store, empty_state}
+use Rattle.cck_util.specs.Store.{Store, Stored}
 use Rattle.c_cache_keys.specs.Call.{Call, CallResult, Done, Fault, Keyed, calls_of}
 use Rattle.c_cache_keys.specs.Keys.{printed}
 use Rattle.c_cache_keys.specs.Laws.{IsTransparent}

@@ -3,7 +3,7 @@ use Rattle.std.specs.Prelude.{◌≡◌, ◌≢◌, true, Option, Some, None, op
 use Rattle.cck_files.specs.FileMap.{FileMap}
 use Rattle.cck_digest.specs.declared.key_error.KeyError.{KeyError}
 use Rattle.cck_path.specs.Bytes.{Bytes}
-use Rattle.cck_compiler.specs.MapStore.{State, map_store, empty_state}
+use Rattle.cck_util.specs.MapStore.{State, map_store, empty_state}
 use Rattle.c_cache_keys.specs.Call.{CallResult, Keyed, Memory, NoText, ReturnsError, TextFault, Why}
 use Rattle.c_cache_keys.specs.Keys.{printed}
 use Rattle.c_cache_keys.specs.Seen.{why_of}

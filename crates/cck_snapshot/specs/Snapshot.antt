@@ -7,7 +7,7 @@ use Rattle.cck_entry.specs.Statuses.{Statuses}
 use Rattle.cck_files.specs.FileMap.{FileMap, FileNode}
 use Rattle.cck_path.specs.Bytes.{Bytes}
 use Rattle.cck_path.specs.Path.{Path}
-use Rattle.cck_compiler.specs.MapStore.{State, map_store, empty_state}
+use Rattle.cck_util.specs.MapStore.{State, map_store, empty_state}
 use Rattle.c_cache_keys.specs.Call.{Call, Keyed}
 use Rattle.c_cache_keys.specs.Keys.{extra_texts, preprocessor_key_of}
 use Rattle.c_cache_keys.specs.World.{World}

@@ -8,7 +8,7 @@ use Rattle.cck_include.specs.Include.{Include}
 use Rattle.cck_path.specs.Bytes.{Bytes}
 use Rattle.cck_path.specs.Path.{Path}
 use Rattle.cck_path.specs.declared.metadata.Metadata.{Metadata}
-use Rattle.cck_compiler.specs.Store.{Returned, Store}
+use Rattle.cck_util.specs.Store.{Returned, Store}
 use Rattle.c_cache_keys.specs.Call.{Call, CallResult, Done, Fault}
 use Rattle.c_cache_keys.specs.Keys.{preprocessor_key_of}
 use Rattle.c_cache_keys.specs.Premises.{IsBefore}

@@ -4,7 +4,7 @@ ghost use Rattle.cck_snapshot.specs.LastPut.{put_of};
 ghost use Rattle.cck_snapshot.specs.Recordings.{entry_pair};
 
 use crate::recordings::RecordedEntry;
-use cck_compiler::{PreprocessorStore, StoreError};
+use cck_util::{PreprocessorStore, StoreError};
 use std::alloc::{AllocError, Global};
 use std::marker::Model;
 

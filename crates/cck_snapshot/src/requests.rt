@@ -11,7 +11,7 @@ use cck_path::Timestamp;
 use jiff::tz::TimeZone;
 
 /// All that a call over a snapshot takes beside the snapshot.
-#[derive(Drop)]
+#[derive(Clone, Copy)]
 pub struct SnapshotRequest<'a> {
     /// The compilation.
     pub hasher: &'a CCompilerHasher<ExternalCompiler>,

@@ -194,7 +194,6 @@ fn begins_with(text: &[u8], bytes: &[u8]) -> bool
 ///
 /// The nodes are in one vector and name each other by their places in it. Equal base directories
 /// are one word of the trie, and empty ones none.
-#[derive(Drop)]
 pub struct BasedirTrie {
     nodes: Vec<TrieNode>,
     // Nodes that a search passes only one after the other are a run, whose bytes it compares at once:
@@ -203,6 +202,17 @@ pub struct BasedirTrie {
     runs: Vec<usize>,
     // Whether the nodes spell one word alone, whose bytes are those of all nodes.
     is_word: bool,
+}
+
+impl Drop for BasedirTrie {
+    fn drop(self) {
+        let BasedirTrie {
+            nodes: _,
+            bytes: _,
+            runs: _,
+            is_word: _,
+        } = self;
+    }
 }
 
 impl Model for BasedirTrie {

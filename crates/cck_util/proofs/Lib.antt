@@ -1,3 +1,4 @@
 pub mod FindLemmas
+pub mod MapEntries
 pub mod MaterialLemmas
 pub mod WrapperLemmas

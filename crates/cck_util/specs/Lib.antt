@@ -1,6 +1,12 @@
+pub mod Counts
+pub mod EmptyLemmas
+pub mod EmptyStore
 pub mod HashKeyParams
 pub mod Key
 pub mod Language
 pub mod Laws
+pub mod MapLemmas
+pub mod MapStore
+pub mod Store
 pub mod Variables
 pub mod Wrapper

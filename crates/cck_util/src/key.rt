@@ -28,7 +28,7 @@ pub const CACHE_VERSION: &[u8] = b"14";
 ///     .with_plusplus(false)
 ///     .compute::<Sha256State>(alloc)?;
 /// ```
-#[derive(Debug, Drop)]
+#[derive(Debug)]
 pub struct HashKeyParams<'a> {
     compiler_digest: &'a str,
     language: Language,
@@ -39,6 +39,22 @@ pub struct HashKeyParams<'a> {
     plusplus: bool,
     basedirs: &'a [Vec<u8>],
     assembler_digest: Option<&'a str>,
+}
+
+impl Drop for HashKeyParams<'_> {
+    fn drop(self) {
+        let HashKeyParams {
+            compiler_digest: _,
+            language: _,
+            arguments: _,
+            preprocessor_output: _,
+            extra_hashes: _,
+            env_vars: _,
+            plusplus: _,
+            basedirs: _,
+            assembler_digest: _,
+        } = self;
+    }
 }
 
 impl<'a> Model for HashKeyParams<'a> {

@@ -3,7 +3,7 @@ ghost use Rattle.std.specs.Prelude.{◌≡◌, ◌↔◌, IsTrue, count_by};
 ghost use Rattle.cck_util.specs.Key.{cache_version};
 ghost use Rattle.cck_util.specs.Laws.{EqualWithoutBasedirs, MaterialTellsParts};
 
-use crate::{CACHE_VERSION, Language, UnknownLanguage};
+use crate::{CACHE_VERSION, Language, StoreError, UnknownLanguage};
 pub use cck_digest::laws::{
     file_error_equality_is_exact, has_is_tested, hex_tells_bytes, lengths_are_little_endian,
     text_has_64_characters, util_error_equality_is_exact,
@@ -55,4 +55,9 @@ pub fn each_language_once()
 /// [`CACHE_VERSION`] is the version in the definition of the key material.
 pub fn version_in_the_material()
     ensures { CACHE_VERSION.now ≡ cache_version }
+{}
+
+/// Two [`StoreError`]s are equal exactly if they are the same.
+pub fn store_error_equality_is_exact()
+    ensures { (a b : StoreError) → IsTrue (⟦<StoreError as PartialEq>⟧.eq a b) ↔ (a ≡ b) }
 {}

@@ -9,6 +9,8 @@
 //! read. It is 2 if a file can't be read, memory is lacking or a call of the examples fails.
 #![tactic(auto)]
 
+mod script_cases;
+
 use std::process::ExitCode;
 use std::{env, io};
 
@@ -38,7 +40,7 @@ fn run_word(rt: &HostRuntime, name: &str) -> io::Result<bool> {
         "files" => cck_file_cases::run_file(rt, name),
         "walks" => cck_file_cases::run_walk_file(rt, name),
         "calls" => cck_call_cases::run_file(rt, name),
-        "scripts" => cck_script_cases::run_file(rt, name),
+        "scripts" => script_cases::run_file(rt, name),
         _ => Err(io::Error::from(io::ErrorKind::NotFound)),
     }
 }

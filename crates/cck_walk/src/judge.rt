@@ -12,7 +12,7 @@ use cck_path::{FileKind, Metadata, Timestamp};
 use std::alloc::{AllocError, Global};
 
 /// How a walk judges a path.
-#[derive(Debug, Drop)]
+#[derive(Drop)]
 pub(crate) enum Judged {
     /// A directory.
     Folder,

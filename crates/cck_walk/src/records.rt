@@ -14,9 +14,15 @@ use std::marker::Model;
 ///
 /// In contracts it is a finite map, of a digest for each path. Paths are compared by components.
 /// Only [`process_preprocessor_line`](crate::process_preprocessor_line) adds to it.
-#[derive(Debug, Drop)]
+#[derive(Debug)]
 pub struct Records {
     digests: PathMap<String>,
+}
+
+impl Drop for Records {
+    fn drop(self) {
+        let Records { digests: _ } = self;
+    }
 }
 
 impl Model for Records {

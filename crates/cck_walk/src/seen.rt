@@ -16,9 +16,14 @@ pub(crate) struct SeenName<'t> {
 
 /// Names that a walk took and that need not be looked at again. Each is remembered until another
 /// one takes its slot. No memory is allocated.
-#[derive(Drop)]
 pub(crate) struct SeenNames<'t> {
     slots: [Option<SeenName<'t>>; SLOTS],
+}
+
+impl Drop for SeenNames<'_> {
+    fn drop(self) {
+        let SeenNames { slots: _ } = self;
+    }
 }
 
 impl<'t> SeenNames<'t> {

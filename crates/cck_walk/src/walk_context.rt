@@ -2,7 +2,7 @@
 use cck_include::JudgeContext;
 
 /// The input of a text, the directory that names are joined to, and what files are judged by.
-#[derive(Drop)]
+#[derive(Clone, Copy)]
 pub(crate) struct WalkContext<'a> {
     /// The path of the input.
     pub(crate) input_file: &'a [u8],

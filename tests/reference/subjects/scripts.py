@@ -1,4 +1,4 @@
-"""The calls of `cck_script_cases`: scripts, the small preprocessor, the program as a function."""
+"""The calls of the script cases of `cck_vectors`: scripts, the small preprocessor, the program as a function."""
 import copy
 
 from ..cases import BaseSubject, WrongLine, cut_words, flag, list_of, moment, number_of, undo

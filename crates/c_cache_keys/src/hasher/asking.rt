@@ -11,10 +11,11 @@ use super::opening::Opening;
 use crate::call::CacheControl;
 use crate::conditions::Conditions;
 use crate::errors::entry_error;
-use cck_compiler::{KeyError, PreprocessorStore, StoreError};
+use cck_compiler::KeyError;
 use cck_digest::HashState;
 use cck_entry::EntryView;
 use cck_files::Files;
+use cck_util::{PreprocessorStore, StoreError};
 use std::alloc::Global;
 
 /// Returns the stored key that matches, if there is one. The store is asked if there is a

@@ -3,11 +3,11 @@ ghost use Rattle.cck_files.specs.Calls.{Keeps, Rose};
 ghost use Rattle.cck_include.specs.Gathered.{digested_in};
 ghost use Rattle.c_cache_keys.specs.Storing.{IsPut};
 
-use cck_compiler::PreprocessorStore;
 use cck_digest::Error;
 use cck_entry::PreprocessorCacheEntry;
 use cck_files::Files;
 use cck_path::Timestamp;
+use cck_util::PreprocessorStore;
 use std::alloc::{AllocError, Global};
 
 /// Puts the entry of one result: a key, and the files that it was computed from.

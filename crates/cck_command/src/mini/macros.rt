@@ -11,7 +11,7 @@ use std::alloc::{AllocError, Global};
 const SECONDS_IN_A_DAY: i128 = 86_400;
 
 /// The texts of the three macros in one file.
-#[derive(Debug, Drop)]
+#[derive(Drop)]
 pub(crate) struct Macros {
     /// The text of `__DATE__`.
     pub(crate) date: String,

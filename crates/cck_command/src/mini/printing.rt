@@ -61,7 +61,7 @@ pub fn print_input<F: Files>(
 
 // What is asked for: a zone and a call time, the working directory from which names are seen, and
 // the input's path.
-#[derive(Debug, Clone, Copy)]
+#[derive(Clone, Copy)]
 struct Job<'a> {
     zone_offset: i32,
     moment: Timestamp,

@@ -3,7 +3,7 @@ use Rattle.std.proofs.lemmas.Result.{err_from_is_err_and}
 use Rattle.std.specs.String.{string_bytes}
 use Rattle.cck_files.specs.Calls.{Rose}
 use Rattle.cck_include.specs.Matching.{matches}
-use Rattle.cck_compiler.specs.declared.store.StoreError.TheVariants as store
+use Rattle.cck_util.specs.declared.store.StoreError.TheVariants as store
 use Rattle.cck_files.proofs.CallsLemmas.{keeps_itself}
 use Rattle.c_cache_keys.proofs.Asked.{given, given_error}
 use Rattle.c_cache_keys.specs.Conditions.{given_of, setting_under}

@@ -1,0 +1,32 @@
+-- what a look-up finds
+use Rattle.std.proofs.Common.{◌∙◌, ℕ, Option, Some, String, string_bytes, IfSome, sym, ap, subst}
+use Rattle.std.specs.declared.alloc.Global.{Global}
+use Rattle.cck_cache.specs.Look.{IsFoundFor, IsKeptObject, IsLookResult, IsLooked, IsNameOf, IsPlace}
+use Rattle.cck_cache.specs.Request.{HasPreprocessorKey}
+use Rattle.cck_cache.specs.declared.environment.Environment.{Environment}
+use Rattle.cck_cache.specs.declared.look.Found.{Found}
+use Rattle.cck_cache.specs.declared.look.Found.TheVariants.{Hit, Miss, NoKey}
+use Rattle.cck_cache.specs.declared.look.Looked.{Looked}
+use Rattle.cck_cache.specs.declared.look.Looked.TheVariants.{Object, Missed}
+use Rattle.cck_cache.specs.declared.look.LookUp.{LookUp}
+use Rattle.cck_cache_arguments.specs.declared.task.Look.{Look}
+
+-- an object file that was found under the name of a match
+pub looked_kept : (lookup : LookUp) (place : Option ℕ) (name : String Global) (looked : Looked) → IsPlace place → IsNameOf lookup name
+    → IsKeptObject lookup.wanted.now.outputs place name looked → IsLooked lookup looked
+looked_kept lookup place name (Object p n object) small is kept = (
+  subst IsPlace (sym kept.0) small,
+  subst (λ (x : String Global). IsNameOf lookup x) (sym kept.1) is,
+  kept.2 ∙ sym (ap string_bytes kept.1),
+  kept.3,
+)
+looked_kept lookup place name (Missed missed) small is kept = subst (λ (x : Option (String Global)). IfSome x (IsNameOf lookup)) (sym kept) is
+
+-- the result for the preprocessor key of a request is the result for the request
+pub found_all : (environment : Environment) (wanted : Look) (key : String Global) (has : HasPreprocessorKey environment wanted.request (Some (string_bytes key))) (found : Found)
+    → IsFoundFor environment.reads_all wanted has.asked has.input key found → IsLookResult environment wanted found
+found_all environment wanted key has (Hit k place n file) is =
+    subst (λ (x : String Global). IsLookResult environment wanted (Hit x place n file)) (sym is.0) (has, is.1, is.2, is.3, is.4)
+found_all environment wanted key has (Miss k since missed) is =
+    subst (λ (x : String Global). IsLookResult environment wanted (Miss x since missed)) (sym is.0) (has, is.1)
+found_all environment wanted key has NoKey is = absurd is

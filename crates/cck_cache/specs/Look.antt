@@ -1,0 +1,125 @@
+-- what a look-up finds
+use Rattle.std.specs.Prelude.{◌≡◌, ◌<◌, ℕ, List, [], Bool, true, false, Option, Some, None, IfSome, String, string_bytes}
+use Rattle.std.specs.FinMap.{empty}
+use Rattle.std.specs.declared.alloc.Global.{Global}
+use Rattle.cck_cache.specs.Included.{IsIncluded}
+use Rattle.cck_cache.specs.Input.{IsCalm, NoFault}
+use Rattle.cck_cache.specs.Naming.{IsName}
+use Rattle.cck_cache.specs.Outputs.{has_outputs}
+use Rattle.cck_cache.specs.Request.{HasPreprocessorKey, IsKeyOver, IsRequest}
+use Rattle.cck_cache.specs.declared.environment.Environment.{Environment}
+use Rattle.cck_cache.specs.declared.look.Found.{Found}
+use Rattle.cck_cache.specs.declared.look.Found.TheVariants.{Hit, Miss, NoKey}
+use Rattle.cck_cache.specs.declared.look.LookUp.{LookUp}
+use Rattle.cck_cache.specs.declared.look.Looked.{Looked}
+use Rattle.cck_cache.specs.declared.look.Looked.TheVariants.{Object, Missed}
+use Rattle.cck_cache.specs.declared.look.Kept.{Kept}
+use Rattle.cck_cache.specs.declared.look.Kept.TheVariants.{Nothing, Damaged, Entry as KeptEntry}
+use Rattle.cck_cache_rules.specs.Files.{EntryFields}
+use Rattle.cck_cache_rules.specs.PathTest.{Test}
+use Rattle.cck_cache_files.specs.EntryNames.{entry_files}
+use Rattle.cck_cache_files.specs.Snapshot.{ArePut, IsPart}
+use Rattle.cck_cache_arguments.specs.declared.request.Request.{Request}
+use Rattle.cck_cache_arguments.specs.declared.task.Look.{Look}
+use Rattle.cck_cache_arguments.specs.declared.task.Outputs.{Outputs}
+use Rattle.cck_cache_arguments.specs.declared.task.Server.{Server}
+use Rattle.cck_entry.specs.Entry.{Entry, EntryText}
+use Rattle.cck_entry.specs.Statuses.{Statuses}
+use Rattle.cck_files.specs.FileMap.{FileMap}
+use Rattle.cck_path.specs.Bytes.{Bytes}
+use Rattle.cck_util.specs.MapStore.{State, map_store}
+use Rattle.c_cache_keys.specs.Call.{Keyed}
+use Rattle.c_cache_keys.specs.declared.call.CacheControl.TheVariants.{Default}
+use Rattle.c_cache_keys.specs.declared.hasher.opening.PreprocessorKey.{PreprocessorKey}
+use Rattle.cck_snapshot.specs.External.{Prints}
+use Rattle.cck_snapshot.specs.Requests.{call_for, world_for}
+use Rattle.cck_snapshot.specs.Snapshot.{one_pair}
+use Rattle.cck_snapshot.specs.Statuses.{AsksWith}
+use Rattle.cck_snapshot.specs.declared.requests.SnapshotRequest.{SnapshotRequest}
+use Rattle.sha2.specs.Sha256.{sha256}
+
+-- a store keeps what the server that is asked has
+abbrev pub keeps : Option Server → Bool
+keeps None = false
+keeps (Some server) = server.keeps
+
+-- The object key that is returned from an entry whose text is held under a preprocessor key, over files that have grown by those that the entry names.
+-- Whatever a preprocessor prints, there is a call that asks a store that holds this text, with these statuses of included files, and returns the key.
+-- Where all files are read there are no statuses.
+pub record IsMatch (reads_all : Bool) (asked : SnapshotRequest) (input : FileMap) (key bytes : Bytes) (entry : Entry) (object : Bytes) : Type 0 where
+  pub files : FileMap
+  pub grown : ArePut (IsIncluded entry) input files
+  pub kept : IsPart input files
+  pub statuses : Statuses
+  pub read : reads_all ≡ true → statuses ≡ empty
+  pub found : (prints : Prints)
+      → (t : State) × AsksWith (world_for sha256 prints asked) map_store statuses (call_for Default files asked) NoFault (one_pair key bytes) (Keyed object false) t
+
+-- an entry of these bytes has a key that is returned so, and the object of the key has this name, by the recorded digest of the input and these tests
+pub record IsNamedMatch (reads_all : Bool) (request : Request) (asked : SnapshotRequest) (input : FileMap) (key : PreprocessorKey) (bytes : Bytes) (tests : List Test) (name : String Global) : Type 0 where
+  pub entry : Entry
+  pub is_entry : EntryText entry bytes
+  pub object : Bytes
+  pub matched : IsMatch reads_all asked input (string_bytes key.text) bytes entry object
+  pub is_name : IsName request (string_bytes key.input_digest) entry tests object (string_bytes name)
+
+-- the same of an entry file of this key
+abbrev pub IsNameOfKey : Bool → Request → SnapshotRequest → FileMap → String Global → String Global → Type 0
+IsNameOfKey reads_all request asked input key name =
+    (file : EntryFields) × (file.preprocessor_key ≡ string_bytes key)
+    × ((own : PreprocessorKey) × (own.text ≡ key) × IsKeyOver asked input own × IsNamedMatch reads_all request asked input own file.entry file.tests name)
+
+-- what a store has of a preprocessor key: an entry is of this key
+abbrev pub IsKeyEntry : Bytes → Kept → Type 0
+IsKeyEntry key Nothing = Unit {0}
+IsKeyEntry key Damaged = Unit {0}
+IsKeyEntry key (KeptEntry file) = file.preprocessor_key.items ≡ key
+
+-- a look-up by an entry file begins with the preprocessor key of its request over the snapshot of the input
+pub record IsLookUp (lookup : LookUp) : Type 0 where
+  pub calm : IsCalm lookup.files.now
+  pub is_request : IsRequest lookup.environment.now lookup.wanted.now.request lookup.environment.now.now [] lookup.asked.now
+  pub is_key : IsKeyOver lookup.asked.now lookup.files.now.files lookup.key.now
+
+-- a name of an object of the preprocessor key of a look-up
+abbrev pub IsNameOf : LookUp → String Global → Type 0
+IsNameOf lookup =
+    IsNameOfKey lookup.environment.now.reads_all lookup.wanted.now.request lookup.asked.now lookup.files.now.files lookup.key.now.text
+
+-- nothing was found but this name
+abbrev pub IsMissed : Option (String Global) → Looked → Type 0
+IsMissed name (Object place n object) = ⊥
+IsMissed name (Missed missed) = missed.object_name ≡ name
+
+-- what was found under the name of an object of the entry file at a place, if it has one
+abbrev pub IsKeptObject : Outputs → Option ℕ → String Global → Looked → Type 0
+IsKeptObject outputs place name (Object p n object) =
+    (p ≡ place) × (n ≡ name) × (object.key.items ≡ string_bytes name) × (has_outputs outputs object ≡ true)
+IsKeptObject outputs place name (Missed missed) = missed.object_name ≡ Some name
+
+-- a place of an entry file, if there is one
+abbrev pub IsPlace : Option ℕ → Type 0
+IsPlace place = IfSome place (λ (p : ℕ). p < entry_files)
+
+-- what was found by one entry file or by some
+abbrev pub IsLooked : LookUp → Looked → Type 0
+IsLooked lookup (Object place name object) =
+    IsPlace place × IsNameOf lookup name × (object.key.items ≡ string_bytes name) × (has_outputs lookup.wanted.now.outputs object ≡ true)
+IsLooked lookup (Missed missed) = IfSome missed.object_name (IsNameOf lookup)
+
+-- what was found for a preprocessor key over a snapshot of the input
+abbrev pub IsFoundFor : Bool → Look → SnapshotRequest → FileMap → String Global → Found → Type 0
+IsFoundFor reads_all wanted asked input key (Hit k place n object) =
+    (k ≡ key) × IsPlace place × IsNameOfKey reads_all wanted.request asked input key n × (object.key.items ≡ string_bytes n) × (has_outputs wanted.outputs object ≡ true)
+IsFoundFor reads_all wanted asked input key (Miss k since missed) = (k ≡ key) × IfSome missed.object_name (IsNameOfKey reads_all wanted.request asked input key)
+IsFoundFor reads_all wanted asked input key NoKey = ⊥
+
+-- The result of a look-up. A hit has an object file of the name of an object whose key is looked up in an entry file of the request's preprocessor
+-- key.
+abbrev pub IsLookResult : Environment → Look → Found → Type 0
+IsLookResult environment wanted (Hit k place n object) =
+    (has : HasPreprocessorKey environment wanted.request (Some (string_bytes k))) × IsPlace place
+    × IsNameOfKey environment.reads_all wanted.request has.asked has.input k n × (object.key.items ≡ string_bytes n) × (has_outputs wanted.outputs object ≡ true)
+IsLookResult environment wanted (Miss k since missed) =
+    (has : HasPreprocessorKey environment wanted.request (Some (string_bytes k))) × IfSome missed.object_name (IsNameOfKey environment.reads_all wanted.request has.asked has.input k)
+IsLookResult environment wanted NoKey = HasPreprocessorKey environment wanted.request None

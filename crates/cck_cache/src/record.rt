@@ -1,0 +1,582 @@
+//! Records a compilation in the store.
+ghost use Rattle.std.specs.Prelude.{◌≡◌, ◌++◌, ◌↔◌, IfOk, IfSome, IsTrue, List, MatchOption, OnOk, Some};
+ghost use Rattle.std.specs.Option.{option_map};
+ghost use Rattle.cck_cache.specs.Input.{IsCalm};
+ghost use Rattle.cck_cache.specs.Record.{HasNoLocalTime, IsEntryOf, IsEntryVerdict, IsInputVerdict, IsJudgedByReading, IsKept, IsLocalTime, IsOneDay, IsOutcome, IsOutcomeOver, IsRefusedByBase, IsSeen, IsTold, ObjectShowsBase, gathered_tests, recorded_fields};
+ghost use Rattle.cck_cache_rules.specs.PathStatus.{Status, statuses_of};
+ghost use Rattle.cck_cache_rules.specs.Files.{entry_fields};
+ghost use Rattle.cck_cache_rules.specs.PathTest.{tests_of};
+ghost use Rattle.cck_cache_text.specs.ReadFiles.{IsAssembledRule, IsOpenedRule};
+ghost use Rattle.cck_files.specs.Calls.{Keeps};
+ghost use Rattle.cck_files.specs.FileState.{IsQuiet, fault_count};
+ghost use Rattle.cck_path.specs.Bytes.{lists_of};
+ghost use Rattle.jiff.specs.Words.{plain_zone};
+
+use crate::entry_place::place_for;
+use crate::environment::Environment;
+use crate::input::input_snapshot;
+use crate::naming::name_in;
+use crate::request::{base_words, hasher_of, snapshot_request};
+use anyhow::Result;
+use c_cache_keys::PreprocessorKey;
+use cck_cache_arguments::{Compilation, Made, Request};
+use cck_cache_files::{
+    Kind, PathStates, StoreDirectory, TextStatuses, add_directory_statuses, add_named_files,
+    compared_paths, entry_name, text_statuses,
+};
+use cck_cache_paths::{
+    Absence, Preprocessed, Tested, Unnamed, absence_of, all_tests, may_have_copies, tested_by,
+    unnamed_by,
+};
+use cck_cache_rules::{
+    EntryFile, Known, ObjectFile, PathStatus, PathTest, Refusal, bases_of, refusal_of, shows_base,
+};
+use cck_cache_text::{assembles_alone, opens_named_alone};
+use cck_digest::UtilError;
+use cck_files::MapFiles;
+use cck_path::Timestamp;
+use cck_snapshot::{RecordedEntry, Recording, SnapshotRequest, preprocessor_key, record_text};
+use cck_util::Sha256State;
+use jiff::civil::DateTime;
+use jiff::tz::TimeZone;
+use std::alloc::AllocError;
+use std::io::ErrorKind;
+use std::rt::Files;
+use std::{fs, io};
+
+/// The outcome of a recording.
+#[derive(Drop)]
+pub enum Outcome {
+    /// The object of this name was recorded.
+    Recorded(String),
+    /// Nothing was recorded.
+    Refused(Refusal),
+}
+
+// The civil time at a time in a zone. `None` where there is none.
+fn local_time(zone: &TimeZone<'_>, time: Timestamp) -> Option<DateTime>
+    ensures { MatchOption result (HasNoLocalTime time.seconds)
+        (IsLocalTime (plain_zone zone.now) time.seconds) }
+{
+    let Ok(instant) = jiff::Timestamp::from_second(time.seconds()) else {
+        return None;
+    };
+    Some(zone.to_datetime(instant))
+}
+
+// Whether two times are of one local day. `false` where that is not known.
+fn is_one_day(zone: &TimeZone<'_>, a: Timestamp, b: Timestamp) -> bool
+    ensures { IsOneDay (plain_zone zone.now) a.seconds b.seconds result }
+{
+    let Some(a) = local_time(zone, a) else {
+        return false;
+    };
+    let Some(b) = local_time(zone, b) else {
+        return false;
+    };
+    a.date() == b.date()
+}
+
+// The files that were gathered for a text.
+#[derive(Drop)]
+struct Gathered {
+    // The input and the files that the text names.
+    files: MapFiles,
+    // What the system says of the files.
+    statuses: Vec<PathStatus>,
+    // Whether a name that was left out has the path of one of the files, or the way to one is in doubt.
+    is_doubtful: bool,
+    // The tests of paths that must hold.
+    tests: Vec<PathTest>,
+    // The tests of the paths at which the sources look for headers.
+    asked_tests: Vec<PathTest>,
+    // The tests of the paths at which headers are looked for, and which the text does not name.
+    unnamed_tests: Vec<PathTest>,
+}
+
+// What a recording looks at.
+enum Seen {
+    // The files of the text.
+    Files(Gathered),
+    // The compilation is not recorded.
+    Refused(Refusal),
+}
+
+// What the system says of the input and of the files that a text names.
+fn statuses_by<R: Files + AllocGlobal>(
+    rt: &R,
+    preprocessed: &Preprocessed<'_>,
+) -> Result<TextStatuses, UtilError> {
+    let (request, text) = (preprocessed.request, preprocessed.text);
+    let directory = request.directory.as_bytes();
+    let paths = compared_paths(rt.alloc(), directory, request.input.as_bytes(), text)?;
+    let found = text_statuses(rt, preprocessed.since, &paths)?;
+    Ok(found)
+}
+
+// Reads the input and the files that a text names, and lists the tests of paths that must hold, by what the
+// compiler printed of its directories; or finds why the compilation is not recorded.
+fn see<R: Files + AllocGlobal>(
+    rt: &R,
+    request: &Request<'_>,
+    compilation: &Compilation<'_>,
+    text: &[u8],
+) -> Result<Seen>
+    ensures { IfOk result (IsSeen request.now compilation.now.since text.now) }
+{
+    let mut files = input_snapshot(rt, request)?;
+    let mut states = PathStates::new(rt, compilation.since);
+    let printed = fs::read(rt, compilation.search)?;
+    let preprocessed = Preprocessed {
+        request,
+        since: compilation.since,
+        text,
+        printed: &printed,
+    };
+    let tests = match absence_of(rt, &mut states, &preprocessed)? {
+        Absence::Refused(refusal) => return Ok(Seen::Refused(refusal)),
+        Absence::Tests(tests) => tests,
+    };
+    let cwd = request.directory.as_bytes();
+    let is_doubtful = add_named_files(rt, &mut files, &mut states, cwd, text)?;
+    let mut asked = PathStates::new(rt, compilation.since);
+    let tested = tested_by(rt, &mut files, &mut asked, &preprocessed)?;
+    let asked_tests = match tested {
+        Tested::Refused(cause) => return Ok(Seen::Refused(cause)),
+        Tested::Tests(asked_tests) => asked_tests,
+    };
+    if may_have_copies(rt.alloc(), &mut files, &preprocessed)? {
+        return Ok(Seen::Refused(Refusal::OtherFile));
+    }
+    let others = unnamed_by(rt, &mut files, &mut states, &preprocessed, &asked_tests)?;
+    match others {
+        Unnamed::Refused(cause) => Ok(Seen::Refused(cause)),
+        Unnamed::Tests(unnamed_tests) => {
+            let found = statuses_by(rt, &preprocessed)?;
+            Ok(Seen::Files(Gathered {
+                files,
+                statuses: found.statuses,
+                is_doubtful: is_doubtful | found.is_doubtful,
+                tests,
+                asked_tests,
+                unnamed_tests,
+            }))
+        }
+    }
+}
+
+// The contents of the file at this path, and nothing where no path is given or no file is there.
+fn read_if_there<R: Files + AllocGlobal>(rt: &R, path: Option<&str>) -> io::Result<Vec<u8>> {
+    let Some(path) = path else {
+        return Ok(Vec::new(rt.alloc()));
+    };
+    match fs::read(rt, path) {
+        Err(error) if error.kind() == ErrorKind::NotFound => Ok(Vec::new(rt.alloc())),
+        contents => contents,
+    }
+}
+
+// Whether the compiler opened no file but those of a text, by the dependency file at this path. `false`
+// where no path is given.
+fn opens_text_alone<R: Files + AllocGlobal>(rt: &R, path: Option<&str>, text: &[u8]) -> Result<bool>
+    ensures { IfOk result (IsTold (IsOpenedRule text.now)) }
+{
+    if path.is_none() {
+        return Ok(false);
+    }
+    let rule = read_if_there(rt, path)?;
+    Ok(opens_named_alone(rt.alloc(), text, &rule)?)
+}
+
+// Whether the assembler read nothing but what the compiler made of the input, by the dependency file at
+// this path. `false` where there is none.
+fn assembles_input_alone<R: Files + AllocGlobal>(
+    rt: &R,
+    path: Option<&str>,
+    input: &str,
+) -> Result<bool>
+    ensures { IfOk result (IsTold (IsAssembledRule input.now)) }
+{
+    let rule = read_if_there(rt, path)?;
+    Ok(assembles_alone(rt.alloc(), input.as_bytes(), &rule)?)
+}
+
+// Why a compilation is not recorded by what the assembler and the compiler say that they read. An entry that
+// is recorded alone is of an object that is there.
+fn refusal_by_reading<R: Files + AllocGlobal>(
+    rt: &R,
+    request: &Request<'_>,
+    made: Option<&Made<'_>>,
+    text: &[u8],
+) -> Result<Option<Refusal>>
+    ensures { IfOk result (IsJudgedByReading request.now text.now (option_map (λ m. m.now) made.entry)) }
+{
+    let Some(made) = made else {
+        return Ok(None);
+    };
+    if !assembles_input_alone(rt, made.assembled, request.input)? {
+        return Ok(Some(Refusal::AssemblerInclude));
+    }
+    let written = if made.dependencies.is_some() {
+        made.dependencies
+    } else {
+        made.opened
+    };
+    if !opens_text_alone(rt, written, text)? {
+        return Ok(Some(Refusal::OtherFile));
+    }
+    Ok(None)
+}
+
+// What is known of a compilation by its input and its time alone. The borrow checker takes a field that
+// holds a reference only at the lifetime of the struct.
+fn known_of<'a>(found: Option<&'a str>, key: &'a str, is_one_day: bool) -> Known<'a>
+    ensures found { option_map (λ k. k.now) result.found ≡ option_map (λ k. k.now) found.entry }
+    ensures key { result.key.now ≡ key.now }
+    ensures is_one_day { result.is_one_day ≡ is_one_day }
+{
+    Known {
+        found,
+        key,
+        is_one_day,
+    }
+}
+
+// What is known by the input and the time of a compilation alone.
+enum InputVerdict {
+    // The preprocessor key. Neither keeps the compilation from being recorded.
+    Key(PreprocessorKey),
+    // The compilation is not recorded.
+    Refused(Refusal),
+}
+
+// The preprocessor key over the files that were gathered, or why the compilation is not recorded, by its
+// input or its time alone.
+fn judge_input<R: AllocGlobal>(
+    rt: &R,
+    environment: &Environment<'_>,
+    asked: &SnapshotRequest<'_>,
+    files: &mut MapFiles,
+    key: &str,
+) -> Result<InputVerdict>
+    ensures judged { IfOk result
+        (IsInputVerdict environment.entry.now asked.now files.old.files key.now) }
+    ensures keeps { OnOk result
+        (Keeps (λ files. files.files) fault_count IsQuiet files.old files.new) }
+{
+    let found = preprocessor_key::<Sha256State, MapFiles>(rt.alloc(), files, asked)?;
+    let is_one_day = is_one_day(asked.zone, asked.moment, environment.now);
+    let Some(own) = found else {
+        return Ok(InputVerdict::Refused(Refusal::NoKey));
+    };
+    let text = own.text.as_str();
+    match refusal_of(&known_of(Some(text), key, is_one_day)) {
+        Some(refusal) => Ok(InputVerdict::Refused(refusal)),
+        None => Ok(InputVerdict::Key(own)),
+    }
+}
+
+// Writes the object file of this name, to the path that is given, or else to the store.
+fn write_object<R: Files + AllocGlobal>(
+    rt: &R,
+    store: &StoreDirectory,
+    compilation: &Compilation<'_>,
+    object: &ObjectFile,
+    name: &str,
+) -> io::Result<()> {
+    let bytes = object.write(rt.alloc())?;
+    match compilation.object_out {
+        Some(path) => store.replace(rt, path, &bytes),
+        None => store.write(rt, Kind::Object, name, &bytes),
+    }
+}
+
+// Writes the entry file, to the path that is given, or else to the store.
+fn write_entry<R: Files + AllocGlobal>(
+    rt: &R,
+    store: &StoreDirectory,
+    compilation: &Compilation<'_>,
+    file: &EntryFile,
+) -> io::Result<()> {
+    let (alloc, key) = (rt.alloc(), compilation.key);
+    let bytes = file.write(alloc)?;
+    if let Some(path) = compilation.entry_out {
+        return store.replace(rt, path, &bytes);
+    }
+    let place = place_for(rt, store, key, file)?;
+    let name = entry_name(alloc, key, place)?;
+    store.write(rt, Kind::Entry, name.as_str(), &bytes)
+}
+
+// Writes the object file, if the compiler made an object, and then the entry file.
+fn write_files<R: Files + AllocGlobal>(
+    rt: &R,
+    store: &StoreDirectory,
+    compilation: &Compilation<'_>,
+    object: Option<&ObjectFile>,
+    name: &str,
+    file: &EntryFile,
+) -> io::Result<()> {
+    if let Some(object) = object {
+        write_object(rt, store, compilation, object, name)?;
+    }
+    write_entry(rt, store, compilation, file)
+}
+
+// The contents of the file at this path, if one is given, and else nothing.
+fn read_some<R: Files + AllocGlobal>(rt: &R, path: Option<&str>) -> io::Result<Vec<u8>> {
+    match path {
+        Some(path) => fs::read(rt, path),
+        None => Ok(Vec::new(rt.alloc())),
+    }
+}
+
+// The object file of this name, of what the compiler made.
+fn object_of<R: Files + AllocGlobal>(
+    rt: &R,
+    compilation: &Compilation<'_>,
+    name: &str,
+) -> Result<Option<ObjectFile>>
+    ensures { IfOk result (λ object. IfSome object (λ o. o.key.items ≡ name.now)) }
+{
+    match &compilation.made {
+        Some(made) => Ok(Some(ObjectFile {
+            key: name.as_bytes().to_vec(rt.alloc())?,
+            object: fs::read(rt, made.object)?,
+            messages: fs::read(rt, made.messages)?,
+            dependencies: read_some(rt, made.dependencies)?,
+        })),
+        None => Ok(None),
+    }
+}
+
+// Whether one of these base directories is in the object, in the messages or in the dependencies.
+fn made_shows_base(bases: &[Vec<u8>], made: &ObjectFile) -> bool
+    ensures { IsTrue result ↔ ObjectShowsBase (lists_of bases.now) (Some made.now) }
+{
+    if shows_base(bases, &made.object) {
+        return true;
+    }
+    if shows_base(bases, &made.messages) {
+        return true;
+    }
+    shows_base(bases, &made.dependencies)
+}
+
+// The same of an object file, if there is one.
+fn object_shows_base(bases: &[Vec<u8>], object: Option<&ObjectFile>) -> bool
+    ensures { IsTrue result
+        ↔ ObjectShowsBase (lists_of bases.now) (option_map (λ o. o.now) object.entry) }
+{
+    match object {
+        Some(object) => made_shows_base(bases, object),
+        None => false,
+    }
+}
+
+// Writes what was recorded of a compilation, unless a base directory is in what the compiler made.
+fn keep<R: Files + AllocGlobal>(
+    rt: &R,
+    store: &StoreDirectory,
+    compilation: &Compilation<'_>,
+    bases: &[Vec<u8>],
+    name: &str,
+    file: &EntryFile,
+) -> Result<Option<Refusal>>
+    ensures { IfOk result (λ refusal. IfSome refusal (IsRefusedByBase (lists_of bases.now))) }
+{
+    let object = object_of(rt, compilation, name)?;
+    if object_shows_base(bases, object.as_ref()) {
+        return Ok(Some(Refusal::BaseDirectory));
+    }
+    write_files(rt, store, compilation, object.as_ref(), name, file)?;
+    Ok(None)
+}
+
+// The entry file of what was recorded.
+fn entry_file_of(entry: RecordedEntry, statuses: Vec<PathStatus>, tests: Vec<PathTest>) -> EntryFile
+    ensures { entry_fields result ≡ recorded_fields entry (statuses_of statuses.items) (tests_of tests.items) }
+{
+    EntryFile {
+        preprocessor_key: entry.preprocessor_key.into_bytes(),
+        entry: entry.bytes,
+        statuses,
+        tests,
+    }
+}
+
+// The entry file of what was recorded, with these tests, one list after the other. It has these statuses, and
+// those of the directories of absent paths in which no name came or went at this time or later.
+fn entry_file_with<R: Files + AllocGlobal>(
+    rt: &R,
+    since: Timestamp,
+    entry: RecordedEntry,
+    statuses: Vec<PathStatus>,
+    made: Vec<PathTest>,
+    asked: Vec<PathTest>,
+    others: Vec<PathTest>,
+) -> Result<EntryFile, AllocError>
+    ensures { IfOk result (λ file. (statuses : List Status) × (entry_fields file ≡ recorded_fields entry statuses
+        ((tests_of made.items ++ tests_of asked.items) ++ tests_of others.items))) }
+{
+    let tests = all_tests(made, asked)?;
+    let tests = all_tests(tests, others)?;
+    let mut statuses = statuses;
+    add_directory_statuses(rt, &mut statuses, since, &tests)?;
+    Ok(entry_file_of(entry, statuses, tests))
+}
+
+// What a recording adds to the entry of its preprocessor key.
+struct Added {
+    // The preprocessor key, with the recorded digest of the input.
+    own: PreprocessorKey,
+    // The key of the object.
+    key: String,
+    // The entry.
+    entry: RecordedEntry,
+}
+
+// What is found by a recording over files.
+enum EntryVerdict {
+    // There is an entry, and nothing keeps the compilation from being recorded but what the compiler made.
+    Added(Added),
+    // The compilation is not recorded.
+    Refused(Refusal),
+}
+
+// What a recording over these files adds, or why the compilation is not recorded.
+fn entry_over<R: AllocGlobal>(
+    rt: &R,
+    environment: &Environment<'_>,
+    asked: &SnapshotRequest<'_>,
+    compilation: &Compilation<'_>,
+    text: &[u8],
+    files: &mut MapFiles,
+) -> Result<EntryVerdict>
+    ensures { IfOk result (λ verdict. IsCalm files.old →
+        IsEntryVerdict environment.entry.now asked.now compilation.now text.now files.old.files verdict) }
+{
+    let own = match judge_input(rt, environment, asked, files, compilation.key)? {
+        InputVerdict::Key(own) => own,
+        InputVerdict::Refused(refusal) => return Ok(EntryVerdict::Refused(refusal)),
+    };
+    let recording = record_text::<Sha256State, MapFiles>(rt.alloc(), files, asked, text)?;
+    let Recording { key, put } = recording;
+    match put {
+        Some(entry) => Ok(EntryVerdict::Added(Added { own, key, entry })),
+        None => Ok(EntryVerdict::Refused(Refusal::NamedFile)),
+    }
+}
+
+// The same by a request, whose base directories are these.
+fn entry_of<R: Files + AllocGlobal>(
+    rt: &R,
+    environment: &Environment<'_>,
+    request: &Request<'_>,
+    compilation: &Compilation<'_>,
+    bases: &[Vec<u8>],
+    text: &[u8],
+    files: &mut MapFiles,
+) -> Result<EntryVerdict>
+    ensures { IfOk result (λ verdict. IsCalm files.old →
+        IsEntryOf environment.entry.now request.now compilation.now (lists_of bases.now) text.now files.old.files verdict) }
+{
+    let hasher = hasher_of(rt, environment, request)?;
+    let (directory, since) = (request.directory, compilation.since);
+    let asked = snapshot_request(environment, &hasher, directory, since, bases);
+    entry_over(rt, environment, &asked, compilation, text, files)
+}
+
+// Records what a recording adds, with what was gathered.
+fn record_added<R: Files + AllocGlobal>(
+    rt: &R,
+    store: &StoreDirectory,
+    request: &Request<'_>,
+    compilation: &Compilation<'_>,
+    bases: &[Vec<u8>],
+    added: Added,
+    gathered: Gathered,
+) -> Result<Outcome>
+    ensures { IfOk result
+        (IsKept request.now (lists_of bases.now) added (gathered_tests gathered)) }
+{
+    let Added { own, key, entry } = added;
+    let file = entry_file_with(
+        rt,
+        compilation.since,
+        entry,
+        gathered.statuses,
+        gathered.tests,
+        gathered.asked_tests,
+        gathered.unnamed_tests,
+    )?;
+    let input = own.input_digest.as_str();
+    let name = name_in(
+        rt.alloc(),
+        request,
+        input,
+        key.as_str(),
+        &file.entry,
+        &file.tests,
+    )?;
+    match keep(rt, store, compilation, bases, name.as_str(), &file)? {
+        Some(refusal) => Ok(Outcome::Refused(refusal)),
+        None => Ok(Outcome::Recorded(name)),
+    }
+}
+
+// Records a compilation over the files that were gathered for its text.
+fn record_over<R: Files + AllocGlobal>(
+    rt: &R,
+    environment: &Environment<'_>,
+    store: &StoreDirectory,
+    request: &Request<'_>,
+    compilation: &Compilation<'_>,
+    text: &[u8],
+    gathered: Gathered,
+) -> Result<Outcome>
+    ensures { IfOk result (λ outcome. IsCalm gathered.files →
+        IsOutcomeOver environment.entry.now request.now compilation.now text.now gathered outcome) }
+{
+    if gathered.is_doubtful {
+        return Ok(Outcome::Refused(Refusal::NamedFile));
+    }
+    let mut gathered = gathered;
+    let bases = bases_of(rt.alloc(), &base_words(request), text)?;
+    let files = &mut gathered.files;
+    match entry_of(rt, environment, request, compilation, &bases, text, files)? {
+        EntryVerdict::Refused(refusal) => Ok(Outcome::Refused(refusal)),
+        EntryVerdict::Added(added) => {
+            record_added(rt, store, request, compilation, &bases, added, gathered)
+        }
+    }
+}
+
+/// Records a compilation whose preprocessed text is this, after it was compiled. Returns the name of the
+/// object, or why nothing was recorded.
+///
+/// The error is of a file that can't be read or written, of a malformed line marker, or lack of memory.
+/// After it the store may have the object file without the entry file.
+///
+/// No contract can say what a disk holds. So what is recorded is stated over files that there are: the
+/// input, and files at the paths of the names of the text.
+pub fn record<R: Files + AllocGlobal>(
+    rt: &R,
+    environment: &Environment<'_>,
+    store: &StoreDirectory,
+    request: &Request<'_>,
+    compilation: &Compilation<'_>,
+    text: &[u8],
+) -> Result<Outcome>
+    ensures { IfOk result (IsOutcome environment.entry.now request.now compilation.now text.now) }
+{
+    if let Some(refusal) = refusal_by_reading(rt, request, compilation.made.as_ref(), text)? {
+        return Ok(Outcome::Refused(refusal));
+    }
+    match see(rt, request, compilation, text)? {
+        Seen::Refused(refusal) => Ok(Outcome::Refused(refusal)),
+        Seen::Files(gathered) => {
+            record_over(rt, environment, store, request, compilation, text, gathered)
+        }
+    }
+}

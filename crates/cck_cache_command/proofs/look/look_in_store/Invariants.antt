@@ -1,7 +1,0 @@
-use Rattle.std.proofs.Common.{IfSome}
-use Rattle.cck_cache_command.specs.Look.{IsNameOf, IsLookUp}
-use Rattle.cck_cache_command.proofs.look.look_in_store.Given as goal
-
--- the name so far is one of an object of the key
-abbrev pub invariant-loop-place : goal.invariant-loop-place
-invariant-loop-place g l = IsLookUp l.lookup → IfSome l.all.object_name (IsNameOf l.lookup)
