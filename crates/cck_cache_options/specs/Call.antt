@@ -61,9 +61,9 @@ pub data Outcome : Type 0 where
   asks : Asked → Outcome
   passed : Reason → Outcome
 
-abbrev pub next_of : Next → State
-next_of (On call waiting) = go (call_of call) waiting
-next_of (Stop reason) = stop reason
+abbrev pub next_of : Asked → Next → State
+next_of call (On waiting) = go call waiting
+next_of call (Stop reason) = stop reason
 
 abbrev pub outcome_of : Parsed → Outcome
 outcome_of (Asks call) = asks (call_of call)

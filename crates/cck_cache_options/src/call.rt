@@ -1,9 +1,9 @@
 //! The arguments of a call.
-ghost use Rattle.std.specs.Prelude.{◌≡◌, IfOk, map};
+ghost use Rattle.std.specs.Prelude.{◌≡◌, IfOk, OnOk, map};
 ghost use Rattle.std.specs.Option.{option_map};
 ghost use Rattle.cck_cache_options.specs.Runs.{AreRuns, runs_entries};
 ghost use Rattle.cck_cache_options.specs.Table.{entries};
-ghost use Rattle.cck_cache_options.specs.Call.{advance, call_of, conclude, ends_in_cplusplus, finish, flag, is_assembler, is_c, is_contrary, is_cplusplus, is_keyed, is_preprocessed, is_source, keep, next_of, nothing_asked, on_argument, on_dash, on_input, on_option, on_value, outcome_of, parse, refused, step, take, take_dependency_file, take_output, take_preprocessor_file};
+ghost use Rattle.cck_cache_options.specs.Call.{advance, call_of, conclude, ends_in_cplusplus, finish, flag, is_assembler, is_c, is_contrary, is_cplusplus, is_keyed, is_preprocessed, is_source, keep, next_of, on_argument, on_dash, on_input, on_option, on_value, outcome_of, parse, refused, start, step, take, take_dependency_file, take_output, take_preprocessor_file};
 
 use crate::reason::Reason;
 use crate::runs::{Runs, longest, runs_of};
@@ -69,11 +69,11 @@ pub enum Parsed<'a> {
     PassedOn(Reason),
 }
 
-// The state after some arguments: the call so far, and the class of the option of which the next
+// The state after some arguments, beside the call so far: the class of the option of which the next
 // argument is the value; or why the call is not cached.
-#[derive(Drop)]
-enum Next<'a> {
-    On(Call<'a>, Option<Class>),
+#[derive(Clone, Copy)]
+enum Next {
+    On(Option<Class>),
     Stop(Reason),
 }
 
@@ -121,43 +121,43 @@ pub(crate) fn is_preprocessed(class: Class) -> bool
     }
 }
 
-// The call with an argument of an option of this class.
-fn keep<'a>(mut call: Call<'a>, class: Class, argument: &'a [u8]) -> Result<Call<'a>, AllocError>
-    ensures { IfOk result (λ kept. call_of kept ≡ keep (call_of call.entry) class argument.now) }
+// Adds an argument of an option of this class.
+fn keep<'a>(call: &mut Call<'a>, class: Class, argument: &'a [u8]) -> Result<(), AllocError>
+    ensures { OnOk result (call_of call.new ≡ keep (call_of call.old) class argument.now) }
 {
     if is_keyed(class) {
         call.keyed.push(Keyed { class, argument })?;
     }
-    Ok(call)
+    Ok(())
 }
 
 // The state after the path of the object. Which of two counts is left to the compiler.
-fn take_output<'a>(mut call: Call<'a>, value: &'a [u8]) -> Next<'a>
-    ensures { next_of result ≡ take_output (call_of call.entry) value.now }
+fn take_output<'a>(call: &mut Call<'a>, value: &'a [u8]) -> Next
+    ensures { next_of (call_of call.new) result ≡ take_output (call_of call.old) value.now }
 {
     if call.output.is_some() {
         return Next::Stop(Reason::TwoOutputs);
     }
     call.output = Some(value);
-    Next::On(call, None)
+    Next::On(None)
 }
 
 // The state after the path of the dependency file.
-fn take_dependency_file<'a>(mut call: Call<'a>, value: &'a [u8]) -> Next<'a>
-    ensures { next_of result ≡ take_dependency_file (call_of call.entry) value.now }
+fn take_dependency_file<'a>(call: &mut Call<'a>, value: &'a [u8]) -> Next
+    ensures { next_of (call_of call.new) result ≡ take_dependency_file (call_of call.old) value.now }
 {
     if call.dependency_file.is_some() {
         return Next::Stop(Reason::TwoDependencyFiles);
     }
     call.dependency_file = Some(value);
     call.describes = true;
-    Next::On(call, None)
+    Next::On(None)
 }
 
 // The state after the path of a dependency file of the preprocessor. A comma in it begins another option
 // of the preprocessor.
-fn take_preprocessor_file<'a>(mut call: Call<'a>, value: &'a [u8]) -> Next<'a>
-    ensures { next_of result ≡ take_preprocessor_file (call_of call.entry) value.now }
+fn take_preprocessor_file<'a>(call: &mut Call<'a>, value: &'a [u8]) -> Next
+    ensures { next_of (call_of call.new) result ≡ take_preprocessor_file (call_of call.old) value.now }
 {
     if value.contains(&b',') {
         return Next::Stop(Reason::PassedOption(Cause::PreprocessorOption));
@@ -167,12 +167,12 @@ fn take_preprocessor_file<'a>(mut call: Call<'a>, value: &'a [u8]) -> Next<'a>
     }
     call.dependency_file = Some(value);
     call.preprocessor_depends = true;
-    Next::On(call, None)
+    Next::On(None)
 }
 
 // The state after the value of an option of this class.
-fn take<'a>(mut call: Call<'a>, class: Class, value: &'a [u8]) -> Result<Next<'a>, AllocError>
-    ensures { IfOk result (λ next. next_of next ≡ take (call_of call.entry) class value.now) }
+fn take<'a>(call: &mut Call<'a>, class: Class, value: &'a [u8]) -> Result<Next, AllocError>
+    ensures { IfOk result (λ next. next_of (call_of call.new) next ≡ take (call_of call.old) class value.now) }
 {
     match class {
         Class::Output => return Ok(take_output(call, value)),
@@ -186,12 +186,12 @@ fn take<'a>(mut call: Call<'a>, class: Class, value: &'a [u8]) -> Result<Next<'a
         }
         _ => {}
     }
-    Ok(Next::On(call, None))
+    Ok(Next::On(None))
 }
 
 // The state after an option without a value.
-fn flag<'a>(mut call: Call<'a>, class: Class) -> Next<'a>
-    ensures { next_of result ≡ flag (call_of call.entry) class }
+fn flag(call: &mut Call<'_>, class: Class) -> Next
+    ensures { next_of (call_of call.new) result ≡ flag (call_of call.old) class }
 {
     match class {
         Class::Passed(cause) => return Next::Stop(Reason::PassedOption(cause)),
@@ -200,27 +200,27 @@ fn flag<'a>(mut call: Call<'a>, class: Class) -> Next<'a>
         Class::Rule => call.describes = true,
         _ => {}
     }
-    Next::On(call, None)
+    Next::On(None)
 }
 
 // The state after the argument of an option, by the rest of it after the option's name.
 fn on_option<'a>(
-    call: Call<'a>,
+    call: &mut Call<'a>,
     form: Form,
     class: Class,
     argument: &'a [u8],
     rest: &'a [u8],
-) -> Result<Next<'a>, AllocError>
-    ensures { IfOk result (λ next. next_of next ≡ on_option (call_of call.entry) form class argument.now rest.now) }
+) -> Result<Next, AllocError>
+    ensures { IfOk result (λ next. next_of (call_of call.new) next ≡ on_option (call_of call.old) form class argument.now rest.now) }
 {
-    let call = keep(call, class, argument)?;
+    keep(call, class, argument)?;
     match form {
         Form::Alone => Ok(flag(call, class)),
         Form::Joined => take(call, class, rest),
-        Form::Separate => Ok(Next::On(call, Some(class))),
+        Form::Separate => Ok(Next::On(Some(class))),
         Form::Either => {
             if rest.is_empty() {
-                Ok(Next::On(call, Some(class)))
+                Ok(Next::On(Some(class)))
             } else {
                 take(call, class, rest)
             }
@@ -290,8 +290,8 @@ fn is_source(name: &[u8]) -> bool
 
 // The state after an argument that is no option and no value. The text may show the path of the input,
 // so the argument counts.
-fn on_input<'a>(call: Call<'a>, argument: &'a [u8]) -> Result<Next<'a>, AllocError>
-    ensures { IfOk result (λ next. next_of next ≡ on_input (call_of call.entry) argument.now) }
+fn on_input<'a>(call: &mut Call<'a>, argument: &'a [u8]) -> Result<Next, AllocError>
+    ensures { IfOk result (λ next. next_of (call_of call.new) next ≡ on_input (call_of call.old) argument.now) }
 {
     if !is_source(argument) {
         return Ok(Next::Stop(Reason::OtherInput));
@@ -299,15 +299,15 @@ fn on_input<'a>(call: Call<'a>, argument: &'a [u8]) -> Result<Next<'a>, AllocErr
     if call.input.is_some() {
         return Ok(Next::Stop(Reason::TwoInputs));
     }
-    let mut call = keep(call, Class::Text, argument)?;
+    keep(call, Class::Text, argument)?;
     call.input = Some(argument);
-    Ok(Next::On(call, None))
+    Ok(Next::On(None))
 }
 
 // The state after an argument that begins with `-` and is no value.
-fn on_dash<'a>(runs: &Runs<'_>, call: Call<'a>, argument: &'a [u8]) -> Result<Next<'a>, AllocError>
+fn on_dash<'a>(runs: &Runs<'_>, call: &mut Call<'a>, argument: &'a [u8]) -> Result<Next, AllocError>
     requires { AreRuns runs.now }
-    ensures { IfOk result (λ next. next_of next ≡ on_dash (runs_entries runs.now) (call_of call.entry) argument.now) }
+    ensures { IfOk result (λ next. next_of (call_of call.new) next ≡ on_dash (runs_entries runs.now) (call_of call.old) argument.now) }
 {
     let Some(row) = longest(runs, argument) else {
         return Ok(Next::Stop(Reason::UnknownOption));
@@ -319,22 +319,22 @@ fn on_dash<'a>(runs: &Runs<'_>, call: Call<'a>, argument: &'a [u8]) -> Result<Ne
 }
 
 // The state after the value of an option in an argument of its own.
-fn on_value<'a>(call: Call<'a>, class: Class, argument: &'a [u8]) -> Result<Next<'a>, AllocError>
-    ensures { IfOk result (λ next. next_of next ≡ on_value (call_of call.entry) class argument.now) }
+fn on_value<'a>(call: &mut Call<'a>, class: Class, argument: &'a [u8]) -> Result<Next, AllocError>
+    ensures { IfOk result (λ next. next_of (call_of call.new) next ≡ on_value (call_of call.old) class argument.now) }
 {
-    let call = keep(call, class, argument)?;
+    keep(call, class, argument)?;
     take(call, class, argument)
 }
 
 // The state after an argument that may be cached.
 fn on_argument<'a>(
     runs: &Runs<'_>,
-    call: Call<'a>,
+    call: &mut Call<'a>,
     waiting: Option<Class>,
     argument: &'a [u8],
-) -> Result<Next<'a>, AllocError>
+) -> Result<Next, AllocError>
     requires { AreRuns runs.now }
-    ensures { IfOk result (λ next. next_of next ≡ on_argument (runs_entries runs.now) (call_of call.entry) waiting argument.now) }
+    ensures { IfOk result (λ next. next_of (call_of call.new) next ≡ on_argument (runs_entries runs.now) (call_of call.old) waiting argument.now) }
 {
     if let Some(class) = waiting {
         return on_value(call, class, argument);
@@ -365,12 +365,12 @@ fn refused(argument: &[u8]) -> Option<Reason>
 // The state after an argument.
 fn step<'a>(
     runs: &Runs<'_>,
-    call: Call<'a>,
+    call: &mut Call<'a>,
     waiting: Option<Class>,
     argument: &'a [u8],
-) -> Result<Next<'a>, AllocError>
+) -> Result<Next, AllocError>
     requires { AreRuns runs.now }
-    ensures { IfOk result (λ next. next_of next ≡ step (runs_entries runs.now) (call_of call.entry) waiting argument.now) }
+    ensures { IfOk result (λ next. next_of (call_of call.new) next ≡ step (runs_entries runs.now) (call_of call.old) waiting argument.now) }
 {
     match refused(argument) {
         Some(reason) => Ok(Next::Stop(reason)),
@@ -379,12 +379,17 @@ fn step<'a>(
 }
 
 // The state after one more argument. A reason stays.
-fn advance<'a>(runs: &Runs<'_>, state: Next<'a>, argument: &'a [u8]) -> Result<Next<'a>, AllocError>
+fn advance<'a>(
+    runs: &Runs<'_>,
+    call: &mut Call<'a>,
+    state: Next,
+    argument: &'a [u8],
+) -> Result<Next, AllocError>
     requires { AreRuns runs.now }
-    ensures { IfOk result (λ next. next_of next ≡ advance (runs_entries runs.now) (next_of state.entry) argument.now) }
+    ensures { IfOk result (λ next. next_of (call_of call.new) next ≡ advance (runs_entries runs.now) (next_of (call_of call.old) state) argument.now) }
 {
     match state {
-        Next::On(call, waiting) => step(runs, call, waiting, argument),
+        Next::On(waiting) => step(runs, call, waiting, argument),
         Next::Stop(reason) => Ok(Next::Stop(reason)),
     }
 }
@@ -416,21 +421,21 @@ fn conclude<'a>(call: Call<'a>) -> Parsed<'a>
 }
 
 // What a call asks for, after its last argument.
-fn finish<'a>(state: Next<'a>) -> Parsed<'a>
-    ensures { outcome_of result ≡ finish (next_of state.entry) }
+fn finish<'a>(call: Call<'a>, state: Next) -> Parsed<'a>
+    ensures { outcome_of result ≡ finish (next_of (call_of call.entry) state) }
 {
     match state {
         Next::Stop(reason) => Parsed::PassedOn(reason),
-        Next::On(_, Some(_)) => Parsed::PassedOn(Reason::MissingValue),
-        Next::On(call, None) => conclude(call),
+        Next::On(Some(_)) => Parsed::PassedOn(Reason::MissingValue),
+        Next::On(None) => conclude(call),
     }
 }
 
-// The state before the first argument.
-fn nothing_asked<'a>(alloc: Global) -> Next<'a>
-    ensures { next_of result ≡ nothing_asked }
+// The call before the first argument.
+fn start<'a>(alloc: Global) -> Call<'a>
+    ensures { call_of result ≡ start }
 {
-    let call = Call {
+    Call {
         compiles: false,
         input: None,
         output: None,
@@ -441,8 +446,7 @@ fn nothing_asked<'a>(alloc: Global) -> Next<'a>
         dependency_file: None,
         keyed: Vec::new(alloc),
         directories: Vec::new(alloc),
-    };
-    Next::On(call, None)
+    }
 }
 
 /// Reads the arguments of a call by the rows of a table: what it asks for, or why it is not cached.
@@ -456,9 +460,10 @@ pub fn parse<'a>(
     ensures { IfOk result (λ parsed. outcome_of parsed ≡ parse (entries rows.now) (map (λ argument. argument.items) arguments.now)) }
 {
     let runs = runs_of(alloc, rows)?;
-    let mut state = nothing_asked(alloc);
+    let mut call = start(alloc);
+    let mut state = Next::On(None);
     for argument in arguments {
-        state = advance(&runs, state, argument)?;
+        state = advance(&runs, &mut call, state, argument)?;
     }
-    Ok(finish(state))
+    Ok(finish(call, state))
 }

@@ -1,6 +1,6 @@
 //! The rows of a table in runs, so that most of them are passed over when the row of an argument is looked
 //! for.
-ghost use Rattle.std.specs.Prelude.{◌≡◌, ◌↔◌, IfOk, IsTrue, flat_map, fold};
+ghost use Rattle.std.specs.Prelude.{◌≡◌, ◌↔◌, IfOk, IsTrue, OnOk, flat_map, fold};
 ghost use Rattle.std.specs.List.{AllByRecursion};
 ghost use Rattle.std.specs.Option.{option_map};
 ghost use Rattle.cck_cache_options.specs.Runs.{AreRuns, IsMore, IsOpened, IsRun, after_dash, run_entries, runs_entries};
@@ -8,20 +8,31 @@ ghost use Rattle.cck_cache_options.specs.Table.{better, entries, entry, longest}
 
 use crate::table::{Row, better};
 use std::alloc::{AllocError, Global};
+use std::mem;
 
 // Rows that follow each other in a table, and whose names have the same two bytes after the dash, or have
 // fewer.
-#[derive(Drop)]
 struct Run<'t> {
     bytes: Option<(u8, u8)>,
     rows: Vec<Row<'t>>,
 }
 
+impl Drop for Run<'_> {
+    fn drop(self) {
+        let Run { bytes: _, rows: _ } = self;
+    }
+}
+
 /// The rows of a table, in runs.
-#[derive(Drop)]
 pub(crate) struct Runs<'t> {
     done: Vec<Run<'t>>,
     last: Run<'t>,
+}
+
+impl Drop for Runs<'_> {
+    fn drop(self) {
+        let Runs { done: _, last: _ } = self;
+    }
 }
 
 // The two bytes of a name or an argument after the dash.
@@ -41,33 +52,30 @@ fn is_same(a: Option<(u8, u8)>, b: Option<(u8, u8)>) -> bool
     a == b
 }
 
-// The runs with a last one of these bytes, which may be empty.
-fn opened<'t>(
+// Makes the last run one of these bytes, which may be empty.
+fn open_run<'t>(
     alloc: Global,
-    runs: Runs<'t>,
+    runs: &mut Runs<'t>,
     bytes: Option<(u8, u8)>,
-) -> Result<Runs<'t>, AllocError>
-    ensures { IfOk result (IsOpened runs.entry bytes) }
+) -> Result<(), AllocError>
+    ensures { OnOk result (IsOpened runs.old bytes runs.new) }
 {
     if is_same(runs.last.bytes, bytes) {
-        return Ok(runs);
+        return Ok(());
     }
-    let Runs { mut done, last } = runs;
-    done.push(last)?;
     let rows = Vec::new(alloc);
-    Ok(Runs {
-        done,
-        last: Run { bytes, rows },
-    })
+    let last = mem::replace(&mut runs.last, Run { bytes, rows });
+    runs.done.push(last)?;
+    Ok(())
 }
 
-// The runs with one more row.
-fn with_row<'t>(alloc: Global, runs: Runs<'t>, row: Row<'t>) -> Result<Runs<'t>, AllocError>
-    ensures { IfOk result (IsMore runs.entry (entry row.entry)) }
+// Adds a row.
+fn add_row<'t>(alloc: Global, runs: &mut Runs<'t>, row: Row<'t>) -> Result<(), AllocError>
+    ensures { OnOk result (IsMore runs.old (entry row.entry) runs.new) }
 {
-    let mut runs = opened(alloc, runs, after_dash(row.name))?;
+    open_run(alloc, runs, after_dash(row.name))?;
     runs.last.rows.push(row)?;
-    Ok(runs)
+    Ok(())
 }
 
 /// The rows of a table in runs.
@@ -85,7 +93,7 @@ pub(crate) fn runs_of<'t>(alloc: Global, rows: &[Row<'t>]) -> Result<Runs<'t>, A
         last,
     };
     for row in rows {
-        runs = with_row(alloc, runs, *row)?;
+        add_row(alloc, &mut runs, *row)?;
     }
     Ok(runs)
 }

@@ -6,8 +6,8 @@ use Rattle.cck_cache_options.proofs.runs.runs_of.Goals as goal
 
 pub loop-row-preserved : goal.loop-row-preserved
 loop-row-preserved c = (
-  rows_more c.args.rows.now c.loop-row.row-index _ _ _ c.loop-row-test.true c.loop-row.invariant.0 c.in_ok-runs.ensures.options,
-  c.in_ok-runs.ensures.runs c.loop-row.invariant.1,
+  rows_more c.args.rows.now c.loop-row.row-index _ _ _ c.loop-row-test.true c.loop-row.invariant.0 c.in_ok-add_row.ensures.options,
+  c.in_ok-add_row.ensures.runs c.loop-row.invariant.1,
 )
 
 pub returns : goal.returns
