@@ -1,7 +1,7 @@
 """Counts the definitions that the trusted statement reaches, and lists those of them that no example and no
 witness names or reaches: `python3 tests/reach.py`. It exits with 1 if there are such definitions.
 
-The statement has three parts. The first is `Headline` of c_cache_keys. The second is `StoreLaws` of cck_compiler.
+The statement has three parts. The first is `Headline` of c_cache_keys. The second is `StoreLaws` of cck_util.
 The third is the contract of `run_calls` in c_cache_keys: the definitions of specs/ that its clauses name.
 
 The lines of a definition are its own lines in its file, from its signature to its last equation, field or
@@ -17,7 +17,7 @@ import sys
 
 CRATES = pathlib.Path(__file__).resolve().parent.parent / "crates"
 HEADLINE = ("c_cache_keys", "Laws", "Headline")
-STORE_LAWS = ("cck_compiler", "Store", "StoreLaws")
+STORE_LAWS = ("cck_util", "Store", "StoreLaws")
 CONTRACT = ("c_cache_keys", "calls.rt", "run_calls")
 USE = re.compile(r"^\s*(?:ghost |pub )?use Rattle\.(\w+)\.specs\.([\w.]+?)(?:\.\{(.*)\}| as (\w+))?;?$", re.MULTILINE)
 START = re.compile(r"( *)(?:(?:abbrev|unfoldable|opaque) )?(?:pub )?(?:(record|data) )?([^\s:(){}]*)(.*)")

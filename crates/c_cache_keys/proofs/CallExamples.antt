@@ -1,6 +1,6 @@
 -- What written variables ask for.
 use Rattle.std.proofs.Common.{◌≡◌, true, false, [], ◌∷◌, codes, refl}
-use Rattle.c_cache_keys.specs.Keys.{is_direct}
+use Rattle.cck_hasher.specs.Keys.{is_direct}
 
 switched_off : is_direct ((codes "SCCACHE_DIRECT", codes "OFF") ∷ []) ≡ false
 unfolding is_direct

@@ -4,11 +4,11 @@ use Rattle.cck_path.specs.Bytes.{Bytes}
 use Rattle.cck_util.specs.Store.{Returned, Store, StoreLaws}
 use Rattle.cck_util.specs.declared.store.StoreError.TheVariants as store
 use Rattle.c_cache_keys.proofs.Stored.{not_failed}
-use Rattle.c_cache_keys.specs.Call.{Call, CallResult, Fault, Keyed, ReturnsError, Why}
+use Rattle.cck_hasher.specs.Call.{Call, CallResult, Fault, Keyed, ReturnsError, Why}
 use Rattle.c_cache_keys.specs.Hits.{Cause, ErrorsHaveCauses, of_damage, of_extra, of_input, of_marker, of_memory, of_store, of_text}
-use Rattle.c_cache_keys.specs.Keys.{preprocessor_key_of}
-use Rattle.c_cache_keys.specs.Step.{Ends, Gives, Makes, Step, StopsMaking, StopsOpening, asked, damaged, extra_fault, gives, input_fault, lacked, made, making_lacks, marker, matched, matching, no_bytes, no_extra, no_input, no_text, no_used_input, nothing, opening_lacks, stopped, stops, store_failed, store_lacked, text_fault, unmatched, used_input_fault}
-use Rattle.c_cache_keys.specs.World.{World}
+use Rattle.cck_hasher.specs.Keys.{preprocessor_key_of}
+use Rattle.cck_hasher.specs.Step.{Ends, Gives, Makes, Step, StopsMaking, StopsOpening, asked, damaged, extra_fault, gives, input_fault, lacked, made, making_lacks, marker, matched, matching, no_bytes, no_extra, no_input, no_text, no_used_input, nothing, opening_lacks, stopped, stops, store_failed, store_lacked, text_fault, unmatched, used_input_fault}
+use Rattle.cck_hasher.specs.World.{World}
 
 same_why : {v w : Why} → ReturnsError v ≡ ReturnsError w → v ≡ w
 same_why e = cc

@@ -13,16 +13,16 @@ use Rattle.cck_include.specs.Recorded.{has_time, recorded}
 use Rattle.cck_path.specs.Bytes.{Bytes}
 use Rattle.cck_path.specs.Path.{Path, components}
 use Rattle.cck_path.specs.Text.{path_text}
-use Rattle.c_cache_keys.proofs.Elements.{each_passes, only_one}
-use Rattle.c_cache_keys.proofs.Includes.{components-meant, entries-alone, match_known}
+use Rattle.cck_hasher.proofs.Elements.{each_passes, only_one}
+use Rattle.cck_hasher.proofs.Includes.{components-meant, entries-alone, match_known}
 use Rattle.c_cache_keys.proofs.KeySame.{cwd_is_determined, input_known, key_known, material_same, path_is_determined, plain_same, used_prints}
 use Rattle.c_cache_keys.proofs.RecordedSame.{recorded_same}
-use Rattle.c_cache_keys.specs.Call.{Call}
-use Rattle.c_cache_keys.specs.Keys.{extra_texts, input_recorded, key_material, plain_key, preprocessor_key_of, printed, request_parts, uses_cache}
+use Rattle.cck_hasher.specs.Call.{Call}
+use Rattle.cck_hasher.specs.Keys.{extra_texts, input_recorded, key_material, plain_key, preprocessor_key_of, printed, request_parts, uses_cache}
 use Rattle.c_cache_keys.specs.Premises.{Agree, IsBefore, IsSameFile, Premises, of_file, of_key, of_time}
-use Rattle.c_cache_keys.specs.Step.{OwnPair, matching}
-use Rattle.c_cache_keys.specs.Walk.{AreRecorded, IsNamed, input_path}
-use Rattle.c_cache_keys.specs.World.{HasSize, World, setting}
+use Rattle.cck_hasher.specs.Step.{OwnPair, matching}
+use Rattle.cck_hasher.specs.Walk.{AreRecorded, IsNamed, input_path}
+use Rattle.cck_hasher.specs.World.{HasSize, World, setting}
 
 -- the result in the entry of one result
 pub only_result : (e : Entry) (key found : Bytes) (includes list : List Include) (bytes : Bytes) → EntryText e bytes → EntryText (insert empty key includes) bytes

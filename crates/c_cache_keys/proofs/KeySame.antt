@@ -20,11 +20,11 @@ use Rattle.cck_strip.specs.Text.{stripped_text}
 use Rattle.cck_util.specs.Key.{KeyParts, material}
 use Rattle.cck_util.specs.Language.{is_preprocessed_first}
 use Rattle.cck_util.specs.Variables.{include_path_names, object_variable_names, object_variables, request_variables}
-use Rattle.c_cache_keys.specs.Call.{Call, Request}
-use Rattle.c_cache_keys.specs.Keys.{extra_texts, input_file, input_recorded, key_material, plain_key, plain_parts, preprocessor_key_of, printed, request_parts, text_of, uses_cache}
+use Rattle.cck_hasher.specs.Call.{Call, Request}
+use Rattle.cck_hasher.specs.Keys.{extra_texts, input_file, input_recorded, key_material, plain_key, plain_parts, preprocessor_key_of, printed, request_parts, text_of, uses_cache}
 use Rattle.c_cache_keys.specs.Premises.{Agree}
-use Rattle.c_cache_keys.specs.Walk.{input_path}
-use Rattle.c_cache_keys.specs.World.{World, setting}
+use Rattle.cck_hasher.specs.Walk.{input_path}
+use Rattle.cck_hasher.specs.World.{World, setting}
 
 mapped_some : {A B : Type 0} (f : A → B) (o : Option A) (b : B) → option_map f o ≡ Some b → (a : A) × (o ≡ Some a) × (b ≡ f a)
 mapped_some f None b e = absurd (none-some _ e)

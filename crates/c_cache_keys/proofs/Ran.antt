@@ -9,10 +9,10 @@ use Rattle.cck_files.proofs.CallsLemmas.{keeps_itself}
 use Rattle.cck_digest.specs.declared.key_error.KeyError.{KeyError}
 use Rattle.cck_util.specs.Store.{Store}
 use Rattle.c_cache_keys.specs.Calls.{AreReturned, IsAfter, IsReturned, done_all}
-use Rattle.c_cache_keys.specs.Seen.{result_of}
-use Rattle.c_cache_keys.specs.Step.{Run}
-use Rattle.c_cache_keys.specs.World.{World}
-use Rattle.c_cache_keys.specs.declared.call.HashResult.{HashResult}
+use Rattle.cck_hasher.specs.Seen.{result_of}
+use Rattle.cck_hasher.specs.Step.{Run}
+use Rattle.cck_hasher.specs.World.{World}
+use Rattle.cck_hasher.specs.declared.call.HashResult.{HashResult}
 use Rattle.c_cache_keys.specs.declared.calls.Call.{Call}
 
 module _ {I F V : Type 0} (value : I → V) (file_map : F → FileMap) (faults : F → ℕ) where

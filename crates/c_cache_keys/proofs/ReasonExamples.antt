@@ -11,10 +11,10 @@ use Rattle.cck_path.specs.Bytes.{Bytes}
 use Rattle.cck_path.specs.Path.{components}
 use Rattle.cck_util.specs.Store.{Store}
 use Rattle.cck_digest.specs.declared.entry_error.Error.TheVariants as entry
-use Rattle.c_cache_keys.specs.Call.{Call}
-use Rattle.c_cache_keys.specs.Reasons.{IsFileReason, IsStoreReason}
-use Rattle.c_cache_keys.specs.Walk.{input_path}
-use Rattle.c_cache_keys.specs.World.{World}
+use Rattle.cck_hasher.specs.Call.{Call}
+use Rattle.cck_hasher.specs.Reasons.{IsFileReason, IsStoreReason}
+use Rattle.cck_hasher.specs.Walk.{input_path}
+use Rattle.cck_hasher.specs.World.{World}
 
 module _ {V : Type 0} (w : World V) (c : Call V) (F : Type 0) where
   module _ (nothing : get c.files.nodes (components (input_path c)) ≡ None) where

@@ -12,9 +12,9 @@ use Rattle.cck_path.specs.Path.{Path}
 use Rattle.cck_path.specs.Timestamp.{nanos_of}
 use Rattle.cck_include.specs.TimePart.{AreOfOneSecond, local_day, source_date_epoch, time_part}
 use Rattle.cck_include.proofs.PartLemmas.{day_is_determined, second_is_determined}
-use Rattle.c_cache_keys.specs.Call.{Call}
+use Rattle.cck_hasher.specs.Call.{Call}
 use Rattle.c_cache_keys.specs.Premises.{IsSameFile}
-use Rattle.c_cache_keys.specs.World.{HasSize, World, setting}
+use Rattle.cck_hasher.specs.World.{HasSize, World, setting}
 
 -- a hex digest has 64 characters
 pub length-digest_text : (hash : Bytes → Bytes) → HasSize hash → (bytes : Bytes) → length (digest_text hash bytes) ≡ 64

@@ -10,13 +10,13 @@ use Rattle.cck_digest.specs.declared.key_error.KeyError.{KeyError}
 use Rattle.cck_digest.specs.declared.key_error.KeyError.TheVariants as error
 use Rattle.cck_path.specs.Bytes.{lists_of}
 use Rattle.cck_util.specs.Store.{Store}
-use Rattle.c_cache_keys.specs.Call.{Extra, ExtraFault, Input, ReturnsError, calls_of}
+use Rattle.cck_hasher.specs.Call.{Extra, ExtraFault, Input, ReturnsError, calls_of}
 use Rattle.c_cache_keys.specs.Calls.{AreReturned, IsAfter, call_in, done_all, done_in}
-use Rattle.c_cache_keys.specs.Hasher.{toolchain_key}
-use Rattle.c_cache_keys.specs.Seen.{result_of}
-use Rattle.c_cache_keys.specs.World.{World}
-use Rattle.c_cache_keys.specs.declared.call.CacheControl.{CacheControl}
-use Rattle.c_cache_keys.specs.declared.call.HashResult.{HashResult}
+use Rattle.cck_hasher.specs.Hasher.{toolchain_key}
+use Rattle.cck_hasher.specs.Seen.{result_of}
+use Rattle.cck_hasher.specs.World.{World}
+use Rattle.cck_hasher.specs.declared.call.CacheControl.{CacheControl}
+use Rattle.cck_hasher.specs.declared.call.HashResult.{HashResult}
 use Rattle.c_cache_keys.specs.declared.calls.Call.{Call}
 
 module _ {I F V : Type 0} (value : I → V) (file_map : F → FileMap) (faults : F → ℕ) (c : Call I F) (after : F) where

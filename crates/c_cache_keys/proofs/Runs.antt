@@ -8,15 +8,15 @@ use Rattle.cck_path.specs.Bytes.{Bytes}
 use Rattle.cck_entry.specs.Entry.{Entry, EntryText}
 use Rattle.cck_include.specs.Include.{Include}
 use Rattle.cck_util.specs.Store.{Returned, Store, StoreLaws}
-use Rattle.c_cache_keys.proofs.Elements.{first_in}
+use Rattle.cck_hasher.proofs.Elements.{first_in}
 use Rattle.c_cache_keys.proofs.HitPlain.{hit_plain}
 use Rattle.c_cache_keys.proofs.Stored.{none_computed, run_returns_stored}
-use Rattle.c_cache_keys.specs.Call.{CallResult, Call, Damaged, Done, Fault, Keyed, ReturnsError, Why, calls_of}
-use Rattle.c_cache_keys.specs.Keys.{plain_key}
+use Rattle.cck_hasher.specs.Call.{CallResult, Call, Damaged, Done, Fault, Keyed, ReturnsError, Why, calls_of}
+use Rattle.cck_hasher.specs.Keys.{plain_key}
 use Rattle.c_cache_keys.specs.Laws.{FreshIsPlain, Headline, HitIsPlain, IsTransparent, KeepsOldOrOwn, NothingDamaged, Runs, RunsHeadline, RunsJoin, StaysSound, joined_lists}
 use Rattle.c_cache_keys.specs.Premises.{IsBefore, Premises}
-use Rattle.c_cache_keys.specs.Step.{Ends, Gives, IsEmpty, Makes, OwnPair, Run, Sound, Step, StopsMaking, StopsOpening, Stores, asked, damaged, extra_fault, faulted, gives, input_fault, lacked, made, making_lacks, marker, matched, matching, no_bytes, no_extra, no_input, no_key, no_text, no_used_input, none_recorded, nothing, opening_lacks, puts, refused, stopped, stops, store_failed, store_lacked, text_fault, unmatched, used_input_fault}
-use Rattle.c_cache_keys.specs.World.{HasSize, World}
+use Rattle.cck_hasher.specs.Step.{Ends, Gives, IsEmpty, Makes, OwnPair, Run, Sound, Step, StopsMaking, StopsOpening, Stores, asked, damaged, extra_fault, faulted, gives, input_fault, lacked, made, making_lacks, marker, matched, matching, no_bytes, no_extra, no_input, no_key, no_text, no_used_input, none_recorded, nothing, opening_lacks, puts, refused, stopped, stops, store_failed, store_lacked, text_fault, unmatched, used_input_fault}
+use Rattle.cck_hasher.specs.World.{HasSize, World}
 
 module _ {V S : Type 0} (w : World V) (st : Store S) where
   pub run_joined : (s mid t : S) (first second : List (Done V)) (before after : List CallResult) → Run w st s first before mid → Run w st mid second after t → Run w st s (first ++ second) (before ++ after) t

@@ -18,20 +18,20 @@ use Rattle.cck_util.specs.MapLemmas.{map_store_laws}
 use Rattle.cck_util.specs.MapStore.{State, call_begun, map_store}
 use Rattle.cck_util.specs.Store.{Returned, HoldsOnly, StoreFailure, Store, StoreLaws, Stored}
 use Rattle.cck_util.specs.declared.store.StoreError.{StoreError}
-use Rattle.c_cache_keys.proofs.Elements.{all_pass, none_in}
+use Rattle.cck_hasher.proofs.Elements.{all_pass, none_in}
 use Rattle.c_cache_keys.proofs.HitPlain.{components-named}
-use Rattle.c_cache_keys.proofs.Includes.{entries-alone, match_by_digest}
+use Rattle.cck_hasher.proofs.Includes.{entries-alone, match_by_digest}
 use Rattle.c_cache_keys.proofs.KeySame.{key_known, material_known}
 use Rattle.c_cache_keys.proofs.Verdicts.{refused_accepted, verdict_on}
-use Rattle.c_cache_keys.specs.Call.{CallResult, Call, Done, Fault, Keyed, ReturnsError, calls_of, Why, Memory}
+use Rattle.cck_hasher.specs.Call.{CallResult, Call, Done, Fault, Keyed, ReturnsError, calls_of, Why, Memory}
 use Rattle.c_cache_keys.specs.Hits.{CanStore, FreshIsHeld, HeldKeyIsReturned, IsUnrelated, MapStoreReturnsStored, SameRecords, StoredIsHit}
-use Rattle.c_cache_keys.specs.Keys.{input_file, input_recorded, preprocessor_key_of}
+use Rattle.cck_hasher.specs.Keys.{input_file, input_recorded, preprocessor_key_of}
 use Rattle.c_cache_keys.specs.Laws.{CanHit, StoredKeyIsReturned, RecacheIsFresh, RunReturnsStored}
-use Rattle.c_cache_keys.specs.Step.{Ends, Gives, Makes, OwnPair, Run, Step, Stores, StopsOpening, asked, damaged, extra_fault, faulted, found, gives, lacked, made, matched, matching, no_bytes, no_extra, no_key, no_used_input, none_recorded, nothing, opening_lacks, puts, refused, stopped, stops, store_failed, store_lacked, unmatched, used_input_fault}
-use Rattle.c_cache_keys.specs.Walk.{Accepted, AreRecorded, IsNamed, NotAccepted}
-use Rattle.c_cache_keys.specs.World.{World, setting}
-use Rattle.c_cache_keys.specs.declared.call.CacheControl.{CacheControl}
-use Rattle.c_cache_keys.specs.declared.call.CacheControl.TheVariants.{Default, ForceRecache}
+use Rattle.cck_hasher.specs.Step.{Ends, Gives, Makes, OwnPair, Run, Step, Stores, StopsOpening, asked, damaged, extra_fault, faulted, found, gives, lacked, made, matched, matching, no_bytes, no_extra, no_key, no_used_input, none_recorded, nothing, opening_lacks, puts, refused, stopped, stops, store_failed, store_lacked, unmatched, used_input_fault}
+use Rattle.cck_hasher.specs.Walk.{Accepted, AreRecorded, IsNamed, NotAccepted}
+use Rattle.cck_hasher.specs.World.{World, setting}
+use Rattle.cck_hasher.specs.declared.call.CacheControl.{CacheControl}
+use Rattle.cck_hasher.specs.declared.call.CacheControl.TheVariants.{Default, ForceRecache}
 
 -- a count that doesn't rise over several calls rises in none of them
 pub calm_part : (a b c d : ℕ) → a ≤ b → b ≤ c → c ≤ d → (Rose a d → ⊥) → Rose b c → ⊥

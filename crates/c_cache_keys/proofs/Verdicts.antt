@@ -6,13 +6,13 @@ use Rattle.cck_include.specs.Include.{Include}
 use Rattle.cck_markers.proofs.OneList.{one_list}
 use Rattle.cck_path.specs.Bytes.{Bytes}
 use Rattle.cck_util.specs.Store.{Store, Stored}
-use Rattle.c_cache_keys.proofs.Decisions.{one_decision}
-use Rattle.c_cache_keys.proofs.Elements.{first_in, none_in}
-use Rattle.c_cache_keys.specs.Call.{Call}
-use Rattle.c_cache_keys.specs.Keys.{preprocessor_key_of, printed}
-use Rattle.c_cache_keys.specs.Step.{OwnPair, Stores, faulted, no_key, none_recorded, puts, refused}
-use Rattle.c_cache_keys.specs.Walk.{Accepted, Errs, IsNamed, MarksDecide, NotAccepted, Verdict, Walk}
-use Rattle.c_cache_keys.specs.World.{World}
+use Rattle.cck_hasher.proofs.Decisions.{one_decision}
+use Rattle.cck_hasher.proofs.Elements.{first_in, none_in}
+use Rattle.cck_hasher.specs.Call.{Call}
+use Rattle.cck_hasher.specs.Keys.{preprocessor_key_of, printed}
+use Rattle.cck_hasher.specs.Step.{OwnPair, Stores, faulted, no_key, none_recorded, puts, refused}
+use Rattle.cck_hasher.specs.Walk.{Accepted, Errs, IsNamed, MarksDecide, NotAccepted, Verdict, Walk}
+use Rattle.cck_hasher.specs.World.{World}
 
 no_element : {X : Type 0} (xs : List X) → ((x : X) → Contains xs x → ⊥) → xs ≡ []
 no_element [] none = refl

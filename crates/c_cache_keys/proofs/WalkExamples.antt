@@ -15,13 +15,13 @@ use Rattle.cck_path.specs.Path.{Path, components, joined, normal, path_cmp}
 use Rattle.cck_path.specs.Text.{join_path}
 use Rattle.cck_path.specs.Timestamp.{Moment}
 use Rattle.cck_include.specs.Gathered.{is_before}
-use Rattle.c_cache_keys.proofs.Elements.{first_in, later_in, one_of, only_one}
+use Rattle.cck_hasher.proofs.Elements.{first_in, later_in, one_of, only_one}
 use Rattle.c_cache_keys.proofs.MarkExamples.{header_mark, header_marks, header_text, header_text_marks, hidden_line_marks, inclusion_marks, input_mark, last_quote_marks, missing_header_marks, no_quote_marks, one_name_marks, short_text_marks, timed_text, timed_text_marks}
 use Rattle.c_cache_keys.proofs.TimeExamples.{time_of_day_not_recorded}
-use Rattle.c_cache_keys.specs.Call.{Call}
-use Rattle.c_cache_keys.specs.Walk.{Accepted, Errs, IsGood, IsLooked, IsNamed, IsOld, NotAccepted, Walk, input_path, meant_path}
+use Rattle.cck_hasher.specs.Call.{Call}
+use Rattle.cck_hasher.specs.Walk.{Accepted, Errs, IsGood, IsLooked, IsNamed, IsOld, NotAccepted, Walk, input_path, meant_path}
 use Rattle.c_cache_keys.specs.Witness.{path_in_w as in_w}
-use Rattle.c_cache_keys.specs.World.{World, setting}
+use Rattle.cck_hasher.specs.World.{World, setting}
 
 -- ---- paths
 

@@ -37,18 +37,18 @@ use Rattle.cck_util.specs.MapStore.{State, map_store, empty_state}
 use Rattle.cck_strip.specs.Cuts.{stripped}
 use Rattle.cck_strip.specs.Text.{longest_prefix, text_site}
 use Rattle.cck_util.specs.Key.{material}
-use Rattle.c_cache_keys.proofs.Elements.{first_in, one_of, only_one}
-use Rattle.c_cache_keys.proofs.Includes.{entries-alone, match_by_digest, same_ok}
+use Rattle.cck_hasher.proofs.Elements.{first_in, one_of, only_one}
+use Rattle.cck_hasher.proofs.Includes.{entries-alone, match_by_digest, same_ok}
 use Rattle.c_cache_keys.proofs.KeySame.{of_both}
 use Rattle.c_cache_keys.proofs.WalkExamples.{header_accepted, header_alone, header_named, input_meant}
-use Rattle.c_cache_keys.specs.Call.{Call, Fault, Keyed, calls_of}
-use Rattle.c_cache_keys.specs.Keys.{extra_texts, input_file, input_recorded, is_direct, key_material, plain_key, plain_parts, preprocessor_key_of, printed, request_parts, text_of, uses_cache}
+use Rattle.cck_hasher.specs.Call.{Call, Fault, Keyed, calls_of}
+use Rattle.cck_hasher.specs.Keys.{extra_texts, input_file, input_recorded, is_direct, key_material, plain_key, plain_parts, preprocessor_key_of, printed, request_parts, text_of, uses_cache}
 use Rattle.c_cache_keys.specs.Hits.{CanStore}
 use Rattle.c_cache_keys.specs.Premises.{IsHashed, CollisionFree, Premises, DeterministicPreprocessor, of_file, of_folder, of_key, of_time}
-use Rattle.c_cache_keys.specs.Step.{Opened, OwnPair, Step, asked, gives, matched, matching, nothing, puts}
-use Rattle.c_cache_keys.specs.Walk.{Accepted, AreRecorded, IsRecorded, Walk, input_path}
+use Rattle.cck_hasher.specs.Step.{Opened, OwnPair, Step, asked, gives, matched, matching, nothing, puts}
+use Rattle.cck_hasher.specs.Walk.{Accepted, AreRecorded, IsRecorded, Walk, input_path}
 use Rattle.c_cache_keys.specs.Witness.{PremisesCanHold, file_of, first_call, header_text, witness_input_text, path_in_w, printed_text, second, second_call, sized, witness_call, witness_done, witness_files, witness_hash, witness_nodes, witness_run, witness_world}
-use Rattle.c_cache_keys.specs.World.{HasSize, setting}
+use Rattle.cck_hasher.specs.World.{HasSize, setting}
 
 abbrev pub input_node : FileNode
 input_node = file_of witness_input_text

@@ -15,12 +15,12 @@ use Rattle.cck_util.specs.Store.{HoldsOnly, StoreFailure}
 use Rattle.c_cache_keys.proofs.Runs.{headline, hit_is_plain, stays_sound}
 use Rattle.c_cache_keys.proofs.Stored.{fresh_is_held, map_store_returns_stored, stored_key_is_returned}
 use Rattle.c_cache_keys.proofs.Witness.{can_store, entry_is, entry_text, extra_is, first_step, found_again, matches_again, only_result, witness_bytes, witness_entry, witness_include, holds_entry, input_node, input_read, key_is, no_fault, plain_stamp, premises, same_parts, second_step, witness_object_key, witness_key, witness_size, asked_again}
-use Rattle.c_cache_keys.specs.Call.{CallResult, Fault, Keyed, calls_of}
+use Rattle.cck_hasher.specs.Call.{CallResult, Fault, Keyed, calls_of}
 use Rattle.c_cache_keys.specs.Hits.{IsUnrelated, SameRecords}
 use Rattle.c_cache_keys.specs.Laws.{AllReturnStored, CanHit, Headline, IsTransparent, ReturnsStored}
 use Rattle.c_cache_keys.specs.Premises.{Agree, IsSameFile}
-use Rattle.c_cache_keys.specs.Step.{OwnPair, Run, Sound, Step, found, matching}
-use Rattle.c_cache_keys.specs.Walk.{input_path}
+use Rattle.cck_hasher.specs.Step.{OwnPair, Run, Sound, Step, found, matching}
+use Rattle.cck_hasher.specs.Walk.{input_path}
 use Rattle.c_cache_keys.specs.Witness.{first_call, printed_text, second_call, witness_done, witness_files, witness_run, witness_world}
 
 -- after the first call the store holds its own pair, and nothing else under its key,

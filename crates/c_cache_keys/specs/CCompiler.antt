@@ -12,7 +12,7 @@ use Rattle.cck_files.specs.FileMap.{FileMap}
 use Rattle.cck_path.specs.Bytes.{Bytes}
 use Rattle.cck_path.specs.Path.{Path}
 use Rattle.c_cache_keys.specs.declared.c_compiler.CCompiler.{CCompiler}
-use Rattle.c_cache_keys.specs.declared.hasher.CCompilerHasher.{CCompilerHasher}
+use Rattle.cck_hasher.specs.declared.hasher.CCompilerHasher.{CCompilerHasher}
 
 -- the hex digest of an executable: that of the node at its path or, of a compiler with a version, that of this hex digest and the version
 unfoldable pub executable_text : (Bytes → Bytes) → Option Bytes → FileMap → Path → Option Bytes

@@ -5,14 +5,14 @@ use Rattle.cck_files.specs.Calls.{Keeps}
 use Rattle.cck_files.specs.FileMap.{FileMap}
 use Rattle.cck_digest.specs.declared.key_error.KeyError.{KeyError}
 use Rattle.cck_util.specs.Store.{Store}
-use Rattle.c_cache_keys.specs.Call as seen
-use Rattle.c_cache_keys.specs.Conditions.{request_of}
-use Rattle.c_cache_keys.specs.Hasher.{toolchain_key}
-use Rattle.c_cache_keys.specs.Reasons.{IsReason}
-use Rattle.c_cache_keys.specs.Seen.{result_of}
-use Rattle.c_cache_keys.specs.Step.{Step}
-use Rattle.c_cache_keys.specs.World.{World}
-use Rattle.c_cache_keys.specs.declared.call.HashResult.{HashResult}
+use Rattle.cck_hasher.specs.Call as seen
+use Rattle.cck_hasher.specs.Conditions.{request_of}
+use Rattle.cck_hasher.specs.Hasher.{toolchain_key}
+use Rattle.cck_hasher.specs.Reasons.{IsReason}
+use Rattle.cck_hasher.specs.Seen.{result_of}
+use Rattle.cck_hasher.specs.Step.{Step}
+use Rattle.cck_hasher.specs.World.{World}
+use Rattle.cck_hasher.specs.declared.call.HashResult.{HashResult}
 use Rattle.c_cache_keys.specs.declared.calls.Call.{Call}
 
 -- a call that came back as it was passed, but for its files, which are in the state that calls on them left

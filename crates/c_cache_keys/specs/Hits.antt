@@ -8,13 +8,13 @@ use Rattle.cck_path.specs.Bytes.{Bytes}
 use Rattle.cck_path.specs.Path.{Path}
 use Rattle.cck_util.specs.MapStore.{State, call_begun, map_store}
 use Rattle.cck_util.specs.Store.{HoldsOnly, StoreFailure, Store}
-use Rattle.c_cache_keys.specs.Call.{CallResult, Call, Done, Fault, Keyed, ReturnsError, calls_of, Why, Memory, Extra, Input, Store as StoreFails, Damaged, NoText, Marker}
+use Rattle.cck_hasher.specs.Call.{CallResult, Call, Done, Fault, Keyed, ReturnsError, calls_of, Why, Memory, Extra, Input, Store as StoreFails, Damaged, NoText, Marker}
 use Rattle.cck_util.specs.Language.{is_preprocessed_first}
-use Rattle.c_cache_keys.specs.Keys.{extra_texts, input_file, preprocessor_key_of, printed, uses_cache}
+use Rattle.cck_hasher.specs.Keys.{extra_texts, input_file, preprocessor_key_of, printed, uses_cache}
 use Rattle.c_cache_keys.specs.Laws.{CanHit}
-use Rattle.c_cache_keys.specs.Step.{OwnPair, Run, Step, found}
-use Rattle.c_cache_keys.specs.Walk.{Accepted, Errs, IsNamed, Walk}
-use Rattle.c_cache_keys.specs.World.{World, setting}
+use Rattle.cck_hasher.specs.Step.{OwnPair, Run, Step, found}
+use Rattle.cck_hasher.specs.Walk.{Accepted, Errs, IsNamed, Walk}
+use Rattle.cck_hasher.specs.World.{World, setting}
 
 -- The regular files that the text of the earlier call names are regular for the later one, of the same sizes and recorded digests.
 abbrev pub SameRecords : {V : Type 0} → World V → Call V → Call V → Bytes → Type 0

@@ -7,12 +7,12 @@ use Rattle.cck_entry.specs.Entry.{Entry, EntryText}
 use Rattle.cck_entry.specs.Find.{found_in}
 use Rattle.cck_include.specs.Include.{Include}
 use Rattle.cck_util.specs.Store.{Returned, Store}
-use Rattle.c_cache_keys.specs.Call.{CallResult, Call, Damaged, Done, Fault, Keyed, Memory, ReturnsError, calls_of}
-use Rattle.c_cache_keys.specs.Keys.{plain_key, preprocessor_key_of}
+use Rattle.cck_hasher.specs.Call.{CallResult, Call, Damaged, Done, Fault, Keyed, Memory, ReturnsError, calls_of}
+use Rattle.cck_hasher.specs.Keys.{plain_key, preprocessor_key_of}
 use Rattle.c_cache_keys.specs.Premises.{Premises}
-use Rattle.c_cache_keys.specs.Step.{Chain, Ends, Gives, IsEmpty, OwnPair, Run, Sound, Step, matching}
-use Rattle.c_cache_keys.specs.World.{World}
-use Rattle.c_cache_keys.specs.declared.call.CacheControl.TheVariants.{Default, ForceRecache}
+use Rattle.cck_hasher.specs.Step.{Chain, Ends, Gives, IsEmpty, OwnPair, Run, Sound, Step, matching}
+use Rattle.cck_hasher.specs.World.{World}
+use Rattle.cck_hasher.specs.declared.call.CacheControl.TheVariants.{Default, ForceRecache}
 
 -- a key that is returned is the plain key, and an error isn't caused by what the store returned
 abbrev pub IsTransparent : {V : Type 0} → World V → Call V → CallResult → Type 0

@@ -8,10 +8,10 @@ use Rattle.cck_path.specs.Bytes.{Bytes}
 use Rattle.cck_path.specs.Path.{Path, components}
 use Rattle.cck_path.specs.Timestamp.{nanos_of}
 use Rattle.cck_include.specs.TimePart.{AreOfOneSecond, local_day, source_date_epoch}
-use Rattle.c_cache_keys.specs.Call.{Call}
-use Rattle.c_cache_keys.specs.Keys.{extra_texts, key_material, preprocessor_key_of, printed, request_parts}
-use Rattle.c_cache_keys.specs.Walk.{Accepted, IsNamed, Walk, input_path}
-use Rattle.c_cache_keys.specs.World.{World, setting}
+use Rattle.cck_hasher.specs.Call.{Call}
+use Rattle.cck_hasher.specs.Keys.{extra_texts, key_material, preprocessor_key_of, printed, request_parts}
+use Rattle.cck_hasher.specs.Walk.{Accepted, IsNamed, Walk, input_path}
+use Rattle.cck_hasher.specs.World.{World, setting}
 
 module _ {V : Type 0} (w : World V) where
   -- bytes that may be hashed for a call

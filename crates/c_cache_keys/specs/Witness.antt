@@ -14,11 +14,11 @@ use Rattle.cck_util.specs.Store.{StoreFailure}
 use Rattle.cck_include.specs.Config.{activated}
 use Rattle.cck_util.specs.declared.language.Language.TheVariants.{C}
 use Rattle.jiff.specs.Types.{UTC}
-use Rattle.c_cache_keys.specs.Call.{Call, Done, Fault, Keyed, calls_of}
+use Rattle.cck_hasher.specs.Call.{Call, Done, Fault, Keyed, calls_of}
 use Rattle.c_cache_keys.specs.Premises.{Premises}
-use Rattle.c_cache_keys.specs.Step.{IsEmpty, Run}
-use Rattle.c_cache_keys.specs.World.{HasSize, World, world_of}
-use Rattle.c_cache_keys.specs.declared.call.CacheControl.TheVariants.{Default}
+use Rattle.cck_hasher.specs.Step.{IsEmpty, Run}
+use Rattle.cck_hasher.specs.World.{HasSize, World, world_of}
+use Rattle.cck_hasher.specs.declared.call.CacheControl.TheVariants.{Default}
 
 abbrev pub ten_zeros : Bytes → Bytes
 ten_zeros rest = 0 ∷ 0 ∷ 0 ∷ 0 ∷ 0 ∷ 0 ∷ 0 ∷ 0 ∷ 0 ∷ 0 ∷ rest

@@ -9,12 +9,12 @@ ghost use Rattle.cck_path.specs.Bytes.{lists_of, variables_of};
 ghost use Rattle.cck_path.specs.Path.{components};
 ghost use Rattle.c_cache_keys.specs.CCompiler.{IsHip, IsOf, IsOfCompiler, executable_text, found_of};
 
-use crate::hasher::CCompilerHasher;
 use cck_compiler::{
     CCompilerImpl, CCompilerKind, CompilerArguments, KeyError, ParsedArguments, add_extra_files,
 };
 use cck_digest::{Digest, HashState, UtilError};
 use cck_files::{DigestFiles, Files};
+use cck_hasher::CCompilerHasher;
 use std::alloc::{AllocError, Global};
 
 /// A compiler and its executable.

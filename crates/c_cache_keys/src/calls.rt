@@ -3,19 +3,18 @@ ghost use Rattle.std.specs.Prelude.{◌≡◌, IfOk, IsOkUnless, OnErr, length, 
 ghost use Rattle.std.specs.List.{AllZip};
 ghost use Rattle.cck_path.specs.Bytes.{lists_of};
 ghost use Rattle.jiff.specs.Words.{plain_zone};
-ghost use Rattle.c_cache_keys.specs.Call.{calls_of};
+ghost use Rattle.cck_hasher.specs.Call.{calls_of};
 ghost use Rattle.c_cache_keys.specs.Calls.{AreReturned, IsAfter, done_all};
 ghost use Rattle.c_cache_keys.specs.Laws.{AllReturnStored, IsTransparent};
 ghost use Rattle.c_cache_keys.specs.Premises.{Premises};
-ghost use Rattle.c_cache_keys.specs.Seen.{result_of};
-ghost use Rattle.c_cache_keys.specs.Step.{IsEmpty, Run};
-ghost use Rattle.c_cache_keys.specs.World.{world_of};
+ghost use Rattle.cck_hasher.specs.Seen.{result_of};
+ghost use Rattle.cck_hasher.specs.Step.{IsEmpty, Run};
+ghost use Rattle.cck_hasher.specs.World.{world_of};
 
-use crate::call::{CacheControl, HashResult};
-use crate::hasher::CCompilerHasher;
 use cck_compiler::{CCompilerImpl, KeyError};
 use cck_digest::{HashState, UtilError};
 use cck_files::Files;
+use cck_hasher::{CCompilerHasher, CacheControl, HashResult};
 use cck_include::PreprocessorCacheModeConfig;
 use cck_path::Timestamp;
 use cck_util::PreprocessorStore;

@@ -5,9 +5,9 @@ ghost use Rattle.cck_include.specs.declared.config.PreprocessorCacheModeConfig.{
 ghost use Rattle.jiff.specs.Types.{TimeZone};
 ghost use Rattle.c_cache_keys.specs.Hits.{FreshIsHeld, HeldKeyIsReturned, ErrorsHaveCauses, MapStoreReturnsStored, StoredIsHit};
 ghost use Rattle.c_cache_keys.specs.Laws.{FreshIsPlain, StoredKeyIsReturned, Headline, HitIsPlain, KeepsOldOrOwn, NothingDamaged, RecacheIsFresh, RunReturnsStored, RunsHeadline, RunsJoin, StaysSound};
-ghost use Rattle.c_cache_keys.specs.Walked.{VerdictIsDecided};
+ghost use Rattle.cck_hasher.specs.Walked.{VerdictIsDecided};
 ghost use Rattle.c_cache_keys.specs.Witness.{PremisesCanHold};
-ghost use Rattle.c_cache_keys.specs.World.{world_of};
+ghost use Rattle.cck_hasher.specs.World.{world_of};
 
 use crate::{CCompilerImpl, CacheControl, PreprocessorStore};
 pub use cck_compiler::laws::{

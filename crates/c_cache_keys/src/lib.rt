@@ -33,8 +33,8 @@
 //! [`laws::verdict_is_decided`] says that the verdicts in its contract are those in the contracts
 //! of calls.
 //!
-//! The interfaces of compilers and stores, and the walk, are re-exported from `cck_compiler`,
-//! `cck_compiler` and `cck_walk`. There are two stores: [`MapStore`] in memory, and [`EmptyStore`],
+//! The calls on one compilation, the interfaces of compilers and stores, and the walk are re-exported from
+//! `cck_hasher`, `cck_compiler`, `cck_util` and `cck_walk`. There are two stores: [`MapStore`] in memory, and [`EmptyStore`],
 //! which keeps nothing. All else that a caller names, such as hash functions, files, times and
 //! options, is in [`cck_util`] and [`cck_entry`], which are re-exported whole. Zones are those of
 //! `jiff`.
@@ -75,26 +75,19 @@
 #![tactic(auto)]
 
 mod c_compiler;
-mod call;
 mod calls;
-mod conditions;
-mod errors;
-mod hasher;
-mod included;
 pub mod laws;
 
 pub use c_compiler::CCompiler;
-pub use call::{CacheControl, HashResult};
 pub use calls::{Call, run_calls};
 pub use cck_compiler::{
     ArtifactDescriptor, CCompilerImpl, CCompilerKind, ColorMode, CompilerArguments, KeyError,
     ParsedArguments, PreprocessError,
 };
 pub use cck_entry;
+pub use cck_hasher::{CCompilerHasher, CacheControl, Conditions, HashResult, PreprocessorKey};
 pub use cck_util;
 pub use cck_util::{EmptyStore, MapStore, PreprocessorStore, StoreError, one_more};
 pub use cck_walk::{
     LineAction, Records, Walk, process_preprocessed_file, process_preprocessor_line,
 };
-pub use conditions::Conditions;
-pub use hasher::{CCompilerHasher, PreprocessorKey};

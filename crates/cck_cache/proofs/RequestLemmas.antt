@@ -1,8 +1,8 @@
 -- the arguments that keys are made of, and the key over a part of a snapshot
 use Rattle.std.proofs.Common.{◌≡◌, ◌∙◌, List, [], ◌∷◌, ◌++◌, Some, None, codes, map, string_bytes, refl, sym, ap, append_assoc, subst}
-use Rattle.c_cache_keys.specs.Keys.{extra_texts}
-use Rattle.c_cache_keys.specs.declared.call.CacheControl.TheVariants.{Default}
-use Rattle.c_cache_keys.specs.declared.hasher.opening.PreprocessorKey.{PreprocessorKey}
+use Rattle.cck_hasher.specs.Keys.{extra_texts}
+use Rattle.cck_hasher.specs.declared.call.CacheControl.TheVariants.{Default}
+use Rattle.cck_hasher.specs.declared.hasher.opening.PreprocessorKey.{PreprocessorKey}
 use Rattle.cck_cache_arguments.specs.declared.request.Request.{Request}
 use Rattle.cck_cache_rules.specs.Base.{WordLists}
 use Rattle.cck_cache.specs.Request.{IsKeyOver, IsRequest, keyed_arguments}

@@ -28,9 +28,9 @@ use Rattle.cck_entry.specs.Statuses.{Statuses}
 use Rattle.cck_files.specs.FileMap.{FileMap}
 use Rattle.cck_path.specs.Bytes.{Bytes}
 use Rattle.cck_util.specs.MapStore.{State, map_store}
-use Rattle.c_cache_keys.specs.Call.{Keyed}
-use Rattle.c_cache_keys.specs.declared.call.CacheControl.TheVariants.{Default}
-use Rattle.c_cache_keys.specs.declared.hasher.opening.PreprocessorKey.{PreprocessorKey}
+use Rattle.cck_hasher.specs.Call.{Keyed}
+use Rattle.cck_hasher.specs.declared.call.CacheControl.TheVariants.{Default}
+use Rattle.cck_hasher.specs.declared.hasher.opening.PreprocessorKey.{PreprocessorKey}
 use Rattle.cck_snapshot.specs.External.{Prints}
 use Rattle.cck_snapshot.specs.Requests.{call_for, world_for}
 use Rattle.cck_snapshot.specs.Snapshot.{one_pair}

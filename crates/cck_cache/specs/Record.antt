@@ -34,7 +34,7 @@ use Rattle.cck_cache_rules.specs.declared.refusal.Refusal.TheVariants.{Assembler
 use Rattle.cck_cache_arguments.specs.declared.request.Request.{Request}
 use Rattle.cck_cache_arguments.specs.declared.task.Compilation.{Compilation}
 use Rattle.cck_cache_arguments.specs.declared.task.Made.{Made}
-use Rattle.c_cache_keys.specs.declared.hasher.opening.PreprocessorKey.{PreprocessorKey}
+use Rattle.cck_hasher.specs.declared.hasher.opening.PreprocessorKey.{PreprocessorKey}
 use Rattle.cck_files.specs.FileMap.{FileMap}
 use Rattle.cck_markers.specs.Marks.{Mark, Marks}
 use Rattle.cck_path.specs.Bytes.{Bytes, lists_of}

@@ -3,11 +3,11 @@ use Rattle.std.specs.Prelude.{◌≡◌, ◌⊎◌, ℕ, Bool, ◌==◌, ◌||�
 use Rattle.std.specs.Borrow.{Bor}
 use Rattle.std.specs.List.{after_first, before_first, ends_with}
 use Rattle.std.specs.Option.{option_map}
-use Rattle.c_cache_keys.specs.Keys.{preprocessor_key_of}
-use Rattle.c_cache_keys.specs.Opening.{IsPreprocessorKey}
-use Rattle.c_cache_keys.specs.declared.call.CacheControl.TheVariants.{Default}
-use Rattle.c_cache_keys.specs.declared.hasher.CCompilerHasher.{CCompilerHasher}
-use Rattle.c_cache_keys.specs.declared.hasher.opening.PreprocessorKey.{PreprocessorKey}
+use Rattle.cck_hasher.specs.Keys.{preprocessor_key_of}
+use Rattle.cck_hasher.specs.Opening.{IsPreprocessorKey}
+use Rattle.cck_hasher.specs.declared.call.CacheControl.TheVariants.{Default}
+use Rattle.cck_hasher.specs.declared.hasher.CCompilerHasher.{CCompilerHasher}
+use Rattle.cck_hasher.specs.declared.hasher.opening.PreprocessorKey.{PreprocessorKey}
 use Rattle.cck_cache_rules.specs.Base.{BaseOf, WordLists}
 use Rattle.cck_cache.specs.Input.{IsInput}
 use Rattle.cck_cache.specs.declared.environment.Environment.{Environment}

@@ -20,10 +20,10 @@ use Rattle.cck_include.specs.Config.{activated}
 use Rattle.cck_include.specs.declared.config.PreprocessorCacheModeConfig.{PreprocessorCacheModeConfig}
 use Rattle.c_cache_keys.proofs.Runs.{run_joined, transparent}
 use Rattle.c_cache_keys.proofs.Stored.{run_returns_stored}
-use Rattle.c_cache_keys.specs.Call.{CallResult}
+use Rattle.cck_hasher.specs.Call.{CallResult}
 use Rattle.c_cache_keys.specs.Calls.{IsAfter, done_all, done_in}
-use Rattle.c_cache_keys.specs.Step.{IsEmpty, Run}
-use Rattle.c_cache_keys.specs.World.{HasSize, World, world_of}
+use Rattle.cck_hasher.specs.Step.{IsEmpty, Run}
+use Rattle.cck_hasher.specs.World.{HasSize, World, world_of}
 use Rattle.c_cache_keys.specs.declared.c_compiler.CCompiler.{CCompiler}
 use Rattle.c_cache_keys.specs.declared.calls.Call.{Call}
 use Rattle.cck_command.proofs.FollowedLemmas.{zip_joined}

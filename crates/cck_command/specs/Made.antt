@@ -10,9 +10,9 @@ use Rattle.cck_files.specs.ArmedCalls.{IsUnarmed}
 use Rattle.cck_files.specs.FileState.{FileState}
 use Rattle.cck_script.specs.Calls as script
 use Rattle.cck_script.specs.Surroundings.{AreFiles, executable_path, variables, working_directory}
-use Rattle.c_cache_keys.specs.Call.{CallResult, Done}
-use Rattle.c_cache_keys.specs.Step.{Run}
-use Rattle.c_cache_keys.specs.World.{World}
+use Rattle.cck_hasher.specs.Call.{CallResult, Done}
+use Rattle.cck_hasher.specs.Step.{Run}
+use Rattle.cck_hasher.specs.World.{World}
 use Rattle.c_cache_keys.specs.declared.c_compiler.CCompiler.{CCompiler}
 use Rattle.c_cache_keys.specs.declared.calls.Call.{Call}
 use Rattle.cck_util.specs.MapStore.{State, map_store}

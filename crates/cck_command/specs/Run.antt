@@ -17,13 +17,13 @@ use Rattle.cck_script.specs.Calls as script
 use Rattle.cck_script.specs.Lines.{Line}
 use Rattle.cck_script.specs.Script.{basedirs_of, fail_of, forget_of, zone_of}
 use Rattle.cck_include.specs.Config.{activated}
-use Rattle.c_cache_keys.specs.Call.{CallResult, Done, Keyed, ReturnsError, calls_of, Why, Memory, Extra, ExtraFault, Input, InputFault, Store, Damaged, NoText, TextFault, Marker}
+use Rattle.cck_hasher.specs.Call.{CallResult, Done, Keyed, ReturnsError, calls_of, Why, Memory, Extra, ExtraFault, Input, InputFault, Store, Damaged, NoText, TextFault, Marker}
 use Rattle.c_cache_keys.specs.Laws.{AllReturnStored, IsTransparent}
 use Rattle.c_cache_keys.specs.Premises.{Premises}
-use Rattle.c_cache_keys.specs.Step.{Run}
-use Rattle.c_cache_keys.specs.World.{World, world_of}
-use Rattle.c_cache_keys.specs.declared.call.CacheControl.{CacheControl}
-use Rattle.c_cache_keys.specs.declared.call.CacheControl.TheVariants.{Default, ForceRecache}
+use Rattle.cck_hasher.specs.Step.{Run}
+use Rattle.cck_hasher.specs.World.{World, world_of}
+use Rattle.cck_hasher.specs.declared.call.CacheControl.{CacheControl}
+use Rattle.cck_hasher.specs.declared.call.CacheControl.TheVariants.{Default, ForceRecache}
 use Rattle.cck_command.specs.MiniCompiler.{mini_compiler, parsed}
 
 -- ---- results of calls

@@ -1,8 +1,8 @@
 //! The lines that are printed for the results of calls and for wrong scripts.
 ghost use Rattle.std.specs.Prelude.{◌≡◌, ◌++◌, IfOk, OnOk, map, string_bytes};
 ghost use Rattle.std.specs.List.{flat_map};
-ghost use Rattle.c_cache_keys.specs.Call.{Keyed, ReturnsError};
-ghost use Rattle.c_cache_keys.specs.Seen.{result_of, why_of};
+ghost use Rattle.cck_hasher.specs.Call.{Keyed, ReturnsError};
+ghost use Rattle.cck_hasher.specs.Seen.{result_of, why_of};
 ghost use Rattle.cck_command.specs.Run.{result_line, wrong_text};
 
 use crate::failed::Failed;

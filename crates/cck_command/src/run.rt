@@ -12,7 +12,7 @@ ghost use Rattle.cck_script.specs.Lines.{Line};
 ghost use Rattle.cck_script.specs.Seen.{line_of, lines_of};
 ghost use Rattle.cck_script.specs.Surroundings.{AreAfter};
 ghost use Rattle.cck_include.specs.Config.{activated};
-ghost use Rattle.c_cache_keys.specs.World.{world_of};
+ghost use Rattle.cck_hasher.specs.World.{world_of};
 ghost use Rattle.cck_command.specs.MiniCompiler.{mini_compiler};
 ghost use Rattle.cck_command.specs.Run.{Ran};
 ghost use Rattle.cck_command.specs.Made.{AreMade, IsRunCompiler};

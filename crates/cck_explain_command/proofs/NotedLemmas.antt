@@ -12,10 +12,10 @@ use Rattle.cck_include.specs.Config.{activated}
 use Rattle.cck_include.specs.declared.config.PreprocessorCacheModeConfig.{PreprocessorCacheModeConfig}
 use Rattle.jiff.specs.Types.{TimeZone}
 use Rattle.c_cache_keys.proofs.Runs.{run_joined}
-use Rattle.c_cache_keys.specs.Call.{CallResult, Done}
+use Rattle.cck_hasher.specs.Call.{CallResult, Done}
 use Rattle.c_cache_keys.specs.Calls.{done_all, done_in}
-use Rattle.c_cache_keys.specs.Step.{Run}
-use Rattle.c_cache_keys.specs.World.{World, world_of}
+use Rattle.cck_hasher.specs.Step.{Run}
+use Rattle.cck_hasher.specs.World.{World, world_of}
 use Rattle.c_cache_keys.specs.declared.c_compiler.CCompiler.{CCompiler}
 use Rattle.c_cache_keys.specs.declared.calls.Call.{Call}
 use Rattle.cck_command.proofs.FollowedLemmas.{zip_joined}

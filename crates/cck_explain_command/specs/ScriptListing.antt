@@ -1,9 +1,9 @@
 -- the listing of a script
 use Rattle.std.specs.Prelude.{◌≡◌, ℕ, ℤ, List, [], ◌∷◌, ◌++◌, length}
 use Rattle.std.specs.List.{AllZip, enumerate_from, flat_map}
-use Rattle.c_cache_keys.specs.Call.{CallResult, Done}
-use Rattle.c_cache_keys.specs.Step.{Run}
-use Rattle.c_cache_keys.specs.World.{World, setting}
+use Rattle.cck_hasher.specs.Call.{CallResult, Done}
+use Rattle.cck_hasher.specs.Step.{Run}
+use Rattle.cck_hasher.specs.World.{World, setting}
 use Rattle.cck_command.specs.Run.{IsRequested, Ran, result_line, run_world}
 use Rattle.cck_path.specs.Bytes.{Bytes}
 use Rattle.cck_script.specs.Calls.{ScriptCallValue, script_calls}

@@ -10,7 +10,7 @@ ghost use Rattle.cck_script.specs.Calls.{ScriptCallValue};
 ghost use Rattle.cck_script.specs.Script.{IsScriptError, commands_of, wrong_line};
 ghost use Rattle.cck_script.specs.Seen.{lines_of};
 ghost use Rattle.cck_include.specs.Config.{activated};
-ghost use Rattle.c_cache_keys.specs.World.{world_of};
+ghost use Rattle.cck_hasher.specs.World.{world_of};
 ghost use Rattle.cck_command.specs.MiniCompiler.{mini_compiler};
 ghost use Rattle.cck_command.specs.Made.{IsReady, IsRunCompiler};
 ghost use Rattle.c_cache_keys.specs.declared.c_compiler.CCompiler.{CCompiler};

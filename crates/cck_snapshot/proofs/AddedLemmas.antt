@@ -13,7 +13,7 @@ use Rattle.cck_entry.specs.Results.{KeyResult}
 use Rattle.cck_include.specs.Include.{Include}
 use Rattle.cck_path.specs.Bytes.{Bytes}
 use Rattle.cck_path.specs.TextOrder.{text_cmp}
-use Rattle.c_cache_keys.proofs.Elements.{first_in, later_in, none_in, one_of}
+use Rattle.cck_hasher.proofs.Elements.{first_in, later_in, none_in, one_of}
 
 -- the new result, or one of these
 abbrev OldOrNew : Bytes → List Include → List KeyResult → KeyResult → Type 0

@@ -5,11 +5,11 @@ use Rattle.cck_entry.specs.Entry.{Entry, EntryText, added}
 use Rattle.cck_path.specs.Bytes.{Bytes}
 use Rattle.cck_util.specs.MapStore.{empty_state, map_store}
 use Rattle.cck_util.specs.Store.{Store, StoreLaws, Stored}
-use Rattle.c_cache_keys.proofs.Includes.{added_alone}
-use Rattle.c_cache_keys.specs.Call.{CallResult, Done, Fault, Keyed}
-use Rattle.c_cache_keys.specs.Step.{Ends, Gives, OwnPair, Step}
-use Rattle.c_cache_keys.specs.World.{World}
-use Rattle.c_cache_keys.specs.declared.call.CacheControl.TheVariants.{ForceRecache}
+use Rattle.cck_hasher.proofs.Includes.{added_alone}
+use Rattle.cck_hasher.specs.Call.{CallResult, Done, Fault, Keyed}
+use Rattle.cck_hasher.specs.Step.{Ends, Gives, OwnPair, Step}
+use Rattle.cck_hasher.specs.World.{World}
+use Rattle.cck_hasher.specs.declared.call.CacheControl.TheVariants.{ForceRecache}
 use Rattle.cck_snapshot.proofs.Hits.{made_fresh}
 use Rattle.cck_snapshot.proofs.KeepingLemmas.{each_empty, each_later, each_same, step_wide}
 use Rattle.cck_snapshot.proofs.Stores.{recorded_own, recording_on_any_store}

@@ -10,7 +10,7 @@ use Rattle.cck_entry.specs.Results.{KeyResult}
 use Rattle.cck_entry.specs.declared.result_ref.ResultRef.{ResultRef}
 use Rattle.cck_include.specs.Include.{Include}
 use Rattle.cck_path.specs.Bytes.{Bytes}
-use Rattle.c_cache_keys.proofs.Includes.{entries-alone}
+use Rattle.cck_hasher.proofs.Includes.{entries-alone}
 use Rattle.cck_snapshot.specs.Additions.{IsAddition, adds}
 use Rattle.cck_snapshot.specs.Laws.{HasOneResult}
 

@@ -10,7 +10,7 @@ use Rattle.cck_entry.specs.Find.{found_in}
 use Rattle.cck_entry.specs.Results.{KeyResult}
 use Rattle.cck_include.specs.Include.{Include}
 use Rattle.cck_path.specs.Bytes.{Bytes}
-use Rattle.c_cache_keys.proofs.Elements.{first_in, later_in, none_in, one_of}
+use Rattle.cck_hasher.proofs.Elements.{first_in, later_in, none_in, one_of}
 
 -- an element that passes is found, or one before it
 finds : {X : Type 0} (test : X → Bool) (xs : List X) (x : X) → Contains xs x → test x ≡ true → (y : X) × (find test xs ≡ Some y)

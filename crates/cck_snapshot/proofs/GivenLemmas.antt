@@ -3,8 +3,8 @@ use Rattle.std.proofs.Common.{◌≡◌, refl}
 use Rattle.cck_digest.specs.declared.key_error.KeyError.TheVariants as key
 use Rattle.cck_digest.specs.declared.preprocess_error.PreprocessError.{PreprocessError}
 use Rattle.cck_digest.specs.declared.preprocess_error.PreprocessError.TheVariants as text
-use Rattle.c_cache_keys.specs.Call.{Damaged, Extra, ExtraFault, Input, InputFault, Marker, Memory, NoText, ReturnsError, Store, TextFault, Why}
-use Rattle.c_cache_keys.specs.Seen.{why_of}
+use Rattle.cck_hasher.specs.Call.{Damaged, Extra, ExtraFault, Input, InputFault, Marker, Memory, NoText, ReturnsError, Store, TextFault, Why}
+use Rattle.cck_hasher.specs.Seen.{why_of}
 use Rattle.cck_snapshot.specs.Recordings.{HasText, given_text}
 
 pub text_missing : (e : PreprocessError) → given_text (ReturnsError (why_of (key.Preprocess e))) ≡ ReturnsError Memory

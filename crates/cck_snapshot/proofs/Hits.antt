@@ -5,10 +5,10 @@ use Rattle.cck_util.specs.Store.{Store}
 use Rattle.cck_include.specs.declared.config.PreprocessorCacheModeConfig.{PreprocessorCacheModeConfig}
 use Rattle.jiff.specs.Types.{TimeZone}
 use Rattle.c_cache_keys.proofs.Stored.{not_failed}
-use Rattle.c_cache_keys.specs.Call.{Call, Keyed}
-use Rattle.c_cache_keys.specs.Keys.{extra_texts, input_file, input_recorded, key_material, preprocessor_key_of, request_parts, uses_cache}
-use Rattle.c_cache_keys.specs.Step.{Makes, Opened, gives, stops}
-use Rattle.c_cache_keys.specs.World.{World, world_of}
+use Rattle.cck_hasher.specs.Call.{Call, Keyed}
+use Rattle.cck_hasher.specs.Keys.{extra_texts, input_file, input_recorded, key_material, preprocessor_key_of, request_parts, uses_cache}
+use Rattle.cck_hasher.specs.Step.{Makes, Opened, gives, stops}
+use Rattle.cck_hasher.specs.World.{World, world_of}
 use Rattle.cck_snapshot.specs.External.{External, Prints, external_compiler}
 
 not_stored : {key other : Bytes} → Keyed key false ≡ Keyed other true → ⊥

@@ -12,16 +12,16 @@ use Rattle.cck_include.specs.Include.{Include}
 use Rattle.cck_path.specs.Bytes.{Bytes}
 use Rattle.cck_path.specs.TextOrder.{text_cmp}
 use Rattle.cck_util.specs.Store.{Returned, Store, StoreLaws, Stored}
-use Rattle.c_cache_keys.proofs.Elements.{first_in, only_one}
+use Rattle.cck_hasher.proofs.Elements.{first_in, only_one}
 use Rattle.c_cache_keys.proofs.HitPlain.{hit_plain, only_result}
-use Rattle.c_cache_keys.proofs.Includes.{added_alone, entries-alone}
+use Rattle.cck_hasher.proofs.Includes.{added_alone, entries-alone}
 use Rattle.c_cache_keys.proofs.Stored.{same_key, stored_key_is_returned}
-use Rattle.c_cache_keys.specs.Call.{Call, CallResult, Damaged, Done, Fault, Keyed, ReturnsError, calls_of}
-use Rattle.c_cache_keys.specs.Keys.{plain_key, preprocessor_key_of}
+use Rattle.cck_hasher.specs.Call.{Call, CallResult, Damaged, Done, Fault, Keyed, ReturnsError, calls_of}
+use Rattle.cck_hasher.specs.Keys.{plain_key, preprocessor_key_of}
 use Rattle.c_cache_keys.specs.Laws.{IsTransparent}
 use Rattle.c_cache_keys.specs.Premises.{Premises}
-use Rattle.c_cache_keys.specs.Step.{Ends, Makes, OwnPair, Step, Stores, asked, faulted, gives, made, matching, no_key, none_recorded, puts, refused, stopped, stops}
-use Rattle.c_cache_keys.specs.World.{HasSize, World}
+use Rattle.cck_hasher.specs.Step.{Ends, Makes, OwnPair, Step, Stores, asked, faulted, gives, made, matching, no_key, none_recorded, puts, refused, stopped, stops}
+use Rattle.cck_hasher.specs.World.{HasSize, World}
 use Rattle.cck_snapshot.proofs.AddedLemmas.{added_is_old_or_new, no_result}
 use Rattle.cck_snapshot.proofs.Outcomes.{Comes, Puts, Reaches, computes, leaves, step_comes, step_damaged, step_hit, stores_puts}
 use Rattle.cck_snapshot.specs.Keeping.{AddsTo, EachOwn, IsFirst, IsHeldOrEmpty, RunKeeping, SoundEach, StepOnto, adding}

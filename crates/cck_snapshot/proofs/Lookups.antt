@@ -11,11 +11,11 @@ use Rattle.cck_path.specs.Bytes.{Bytes, lists_of}
 use Rattle.cck_util.specs.MapStore.{call_begun, map_store}
 use Rattle.jiff.specs.Words.{plain_zone}
 use Rattle.c_cache_keys.proofs.KeySame.{input_known, key_known, material_known}
-use Rattle.c_cache_keys.specs.Call.{Call, Keyed}
-use Rattle.c_cache_keys.specs.Keys.{input_file, preprocessor_key_of}
-use Rattle.c_cache_keys.specs.Step.{Opened, matched}
-use Rattle.c_cache_keys.specs.World.{World}
-use Rattle.c_cache_keys.specs.declared.call.CacheControl.TheVariants.{Default}
+use Rattle.cck_hasher.specs.Call.{Call, Keyed}
+use Rattle.cck_hasher.specs.Keys.{input_file, preprocessor_key_of}
+use Rattle.cck_hasher.specs.Step.{Opened, matched}
+use Rattle.cck_hasher.specs.World.{World}
+use Rattle.cck_hasher.specs.declared.call.CacheControl.TheVariants.{Default}
 use Rattle.cck_snapshot.proofs.Hits.{key_same, opened}
 use Rattle.cck_snapshot.proofs.Pairs.{find_own}
 use Rattle.cck_snapshot.proofs.Parts.{key_here}

@@ -8,10 +8,10 @@ use Rattle.cck_markers.proofs.OneList.{one_list}
 use Rattle.cck_markers.specs.Marks.{Malformed, Mark, Name, Refusal}
 use Rattle.cck_path.specs.Bytes.{Bytes}
 use Rattle.cck_path.specs.Path.{Path, components}
-use Rattle.c_cache_keys.proofs.Elements.{none_in, one_of}
-use Rattle.c_cache_keys.specs.Call.{Call}
-use Rattle.c_cache_keys.specs.Walk.{AreRecorded, IsGood, IsLooked, IsNamed, Accepted, Errs, IsRecorded, MarksDecide, NotAccepted, Verdict, Walk, input_path, meant_path}
-use Rattle.c_cache_keys.specs.World.{World, setting}
+use Rattle.cck_hasher.proofs.Elements.{none_in, one_of}
+use Rattle.cck_hasher.specs.Call.{Call}
+use Rattle.cck_hasher.specs.Walk.{AreRecorded, IsGood, IsLooked, IsNamed, Accepted, Errs, IsRecorded, MarksDecide, NotAccepted, Verdict, Walk, input_path, meant_path}
+use Rattle.cck_hasher.specs.World.{World, setting}
 
 not_accepted : Accepted ≡ NotAccepted → ⊥
 not_accepted e = cc

@@ -10,10 +10,10 @@ use Rattle.cck_path.specs.Bytes.{Bytes}
 use Rattle.cck_util.specs.Store.{Returned, Store, Stored}
 use Rattle.c_cache_keys.proofs.Runs.{nothing_damaged}
 use Rattle.c_cache_keys.proofs.Stored.{none_computed, not_failed}
-use Rattle.c_cache_keys.specs.Call.{Call, CallResult, Damaged, Done, Fault, Keyed, ReturnsError, Why}
-use Rattle.c_cache_keys.specs.Keys.{plain_key, preprocessor_key_of}
-use Rattle.c_cache_keys.specs.Step.{Ends, Gives, Makes, OwnPair, Step, Stores, asked, damaged, faulted, gives, lacked, made, matched, matching, no_bytes, no_key, none_recorded, nothing, puts, refused, stopped, stops, store_failed, store_lacked, unmatched}
-use Rattle.c_cache_keys.specs.World.{HasSize, World}
+use Rattle.cck_hasher.specs.Call.{Call, CallResult, Damaged, Done, Fault, Keyed, ReturnsError, Why}
+use Rattle.cck_hasher.specs.Keys.{plain_key, preprocessor_key_of}
+use Rattle.cck_hasher.specs.Step.{Ends, Gives, Makes, OwnPair, Step, Stores, asked, damaged, faulted, gives, lacked, made, matched, matching, no_bytes, no_key, none_recorded, nothing, puts, refused, stopped, stops, store_failed, store_lacked, unmatched}
+use Rattle.cck_hasher.specs.World.{HasSize, World}
 use Rattle.cck_snapshot.proofs.Hits.{made_fresh}
 use Rattle.cck_snapshot.specs.LastPut.{last_put, last_put_laws}
 

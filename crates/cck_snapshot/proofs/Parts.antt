@@ -24,19 +24,19 @@ use Rattle.cck_util.specs.MapStore.{IsGot, State, map_store, empty_state}
 use Rattle.cck_entry.specs.PreprocessorKey.{preprocessor_material}
 use Rattle.cck_util.specs.Store.{Returned}
 use Rattle.cck_util.specs.Key.{material}
-use Rattle.c_cache_keys.proofs.Elements.{all_pass, each_passes}
+use Rattle.cck_hasher.proofs.Elements.{all_pass, each_passes}
 use Rattle.c_cache_keys.proofs.HitPlain.{only_result}
-use Rattle.c_cache_keys.proofs.Includes.{entries-alone, same_ok}
-use Rattle.c_cache_keys.proofs.Judgements.{folder_or_file}
+use Rattle.cck_hasher.proofs.Includes.{entries-alone, same_ok}
+use Rattle.cck_hasher.proofs.Judgements.{folder_or_file}
 use Rattle.c_cache_keys.proofs.KeySame.{input_known, key_known, material_known, of_both, used_prints}
 use Rattle.c_cache_keys.proofs.Stored.{not_both, not_failed}
-use Rattle.c_cache_keys.specs.Call.{Call, CallResult, Fault, Keyed}
+use Rattle.cck_hasher.specs.Call.{Call, CallResult, Fault, Keyed}
 use Rattle.cck_util.specs.Language.{is_preprocessed_first}
-use Rattle.c_cache_keys.specs.Keys.{extra_texts, input_file, input_recorded, key_material, plain_key, plain_parts, preprocessor_key_of, printed, request_parts, text_of, uses_cache}
-use Rattle.c_cache_keys.specs.Step.{Ends, Gives, Opened, OwnPair, Step, asked, faulted, gives, made, matched, no_key, none_recorded, puts, refused, stopped, stops}
-use Rattle.c_cache_keys.specs.Walk.{Accepted, IsGood, IsNamed, Walk, input_path}
-use Rattle.c_cache_keys.specs.World.{World, setting}
-use Rattle.c_cache_keys.specs.declared.call.CacheControl.TheVariants.{ForceRecache}
+use Rattle.cck_hasher.specs.Keys.{extra_texts, input_file, input_recorded, key_material, plain_key, plain_parts, preprocessor_key_of, printed, request_parts, text_of, uses_cache}
+use Rattle.cck_hasher.specs.Step.{Ends, Gives, Opened, OwnPair, Step, asked, faulted, gives, made, matched, no_key, none_recorded, puts, refused, stopped, stops}
+use Rattle.cck_hasher.specs.Walk.{Accepted, IsGood, IsNamed, Walk, input_path}
+use Rattle.cck_hasher.specs.World.{World, setting}
+use Rattle.cck_hasher.specs.declared.call.CacheControl.TheVariants.{ForceRecache}
 use Rattle.cck_snapshot.proofs.Hits.{made_fresh}
 use Rattle.cck_snapshot.proofs.Names.{SameNames, all_recorded, is_good, walk_accepts}
 use Rattle.cck_snapshot.proofs.Outcomes.{given_hit}

@@ -12,11 +12,11 @@ use Rattle.cck_include.specs.Include.{Include}
 use Rattle.cck_path.specs.Bytes.{Bytes}
 use Rattle.cck_path.specs.TextOrder.{text_cmp}
 use Rattle.cck_util.specs.MapStore.{IsGot, State, map_store}
-use Rattle.c_cache_keys.specs.Call.{Call, CallResult, Done, Fault, Keyed}
-use Rattle.c_cache_keys.specs.Keys.{plain_key, preprocessor_key_of}
+use Rattle.cck_hasher.specs.Call.{Call, CallResult, Done, Fault, Keyed}
+use Rattle.cck_hasher.specs.Keys.{plain_key, preprocessor_key_of}
 use Rattle.c_cache_keys.specs.Premises.{Premises}
-use Rattle.c_cache_keys.specs.Step.{Ends, Gives, matched}
-use Rattle.c_cache_keys.specs.World.{HasSize, World}
+use Rattle.cck_hasher.specs.Step.{Ends, Gives, matched}
+use Rattle.cck_hasher.specs.World.{HasSize, World}
 use Rattle.cck_snapshot.proofs.Finds.{found_has, found_some}
 use Rattle.cck_snapshot.proofs.Hits.{made_fresh}
 use Rattle.cck_snapshot.proofs.KeepingLemmas.{own_is_plain, same_entry}

@@ -8,12 +8,12 @@ use Rattle.cck_digest.specs.declared.key_error.KeyError.TheVariants as error
 use Rattle.cck_path.specs.Bytes.{Bytes, lists_of}
 use Rattle.cck_path.specs.Variables.{Variable}
 use Rattle.jiff.specs.Words.{plain_zone}
-use Rattle.c_cache_keys.specs.Call.{CallResult, Memory, ReturnsError, Request as CallRequest}
-use Rattle.c_cache_keys.specs.Conditions.{call_under, world_under}
-use Rattle.c_cache_keys.specs.Seen.{why_of}
-use Rattle.c_cache_keys.specs.Step.{Step, opening_lacks, stopped}
-use Rattle.c_cache_keys.specs.declared.call.CacheControl.TheVariants.{ForceRecache}
-use Rattle.c_cache_keys.specs.declared.hasher.CCompilerHasher.{CCompilerHasher}
+use Rattle.cck_hasher.specs.Call.{CallResult, Memory, ReturnsError, Request as CallRequest}
+use Rattle.cck_hasher.specs.Conditions.{call_under, world_under}
+use Rattle.cck_hasher.specs.Seen.{why_of}
+use Rattle.cck_hasher.specs.Step.{Step, opening_lacks, stopped}
+use Rattle.cck_hasher.specs.declared.call.CacheControl.TheVariants.{ForceRecache}
+use Rattle.cck_hasher.specs.declared.hasher.CCompilerHasher.{CCompilerHasher}
 use Rattle.cck_snapshot.proofs.Texts.{recorded_there, error_there}
 use Rattle.cck_snapshot.specs.LastPut.{LastPut, last_put}
 use Rattle.cck_snapshot.specs.Recordings.{HasText, IsRecording, IsRecordingError, key_of, entry_pair}

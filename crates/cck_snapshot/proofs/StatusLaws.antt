@@ -15,13 +15,13 @@ use Rattle.cck_path.specs.Path.{components}
 use Rattle.cck_path.specs.declared.metadata.Metadata.{Metadata}
 use Rattle.cck_util.specs.Store.{Returned, Store, StoreLaws, Stored}
 use Rattle.std.proofs.lemmas.List.Elements.{Contains-append_left, Contains-append_right}
-use Rattle.c_cache_keys.proofs.Elements.{first_in, later_in, one_of, only_one}
-use Rattle.c_cache_keys.proofs.Includes.{same_ok}
+use Rattle.cck_hasher.proofs.Elements.{first_in, later_in, one_of, only_one}
+use Rattle.cck_hasher.proofs.Includes.{same_ok}
 use Rattle.c_cache_keys.proofs.Runs.{headline, stays_sound}
-use Rattle.c_cache_keys.specs.Call.{Call, CallResult, Done, Fault, calls_of}
-use Rattle.c_cache_keys.specs.Step.{Gives, OwnPair, Run, Sound, Step, asked, damaged, lacked, matched, matching, no_bytes, nothing, store_failed, store_lacked, unmatched}
+use Rattle.cck_hasher.specs.Call.{Call, CallResult, Done, Fault, calls_of}
+use Rattle.cck_hasher.specs.Step.{Gives, OwnPair, Run, Sound, Step, asked, damaged, lacked, matched, matching, no_bytes, nothing, store_failed, store_lacked, unmatched}
 use Rattle.c_cache_keys.specs.Witness.{first_call, second_call, witness_files, witness_run}
-use Rattle.c_cache_keys.specs.World.{HasSize, World, setting}
+use Rattle.cck_hasher.specs.World.{HasSize, World, setting}
 use Rattle.cck_snapshot.proofs.Finds.{found_same}
 use Rattle.cck_snapshot.proofs.KeepingLemmas.{each_same, headline_keeping, headline_on_earlier, same_result, sound_is_each, stays_sound_each, stays_sound_onto}
 use Rattle.cck_snapshot.proofs.StatusLemmas.{accepted_matches}

@@ -23,13 +23,13 @@ use Rattle.cck_path.specs.declared.metadata.FileKind.{FileKind}
 use Rattle.cck_path.specs.declared.metadata.FileKind.TheVariants.{File, Folder, Other}
 use Rattle.cck_path.specs.declared.metadata.Metadata.{Metadata}
 use Rattle.c_cache_keys.proofs.HitPlain.{components-named}
-use Rattle.c_cache_keys.proofs.Includes.{match_by_digest, same_ok}
-use Rattle.c_cache_keys.proofs.Judgements.{folder_or_file}
+use Rattle.cck_hasher.proofs.Includes.{match_by_digest, same_ok}
+use Rattle.cck_hasher.proofs.Judgements.{folder_or_file}
 use Rattle.c_cache_keys.proofs.RecordedSame.{length-digest_text}
-use Rattle.c_cache_keys.specs.Call.{Call}
-use Rattle.c_cache_keys.specs.Step.{OwnPair, matching}
-use Rattle.c_cache_keys.specs.Walk.{IsGood, IsOld}
-use Rattle.c_cache_keys.specs.World.{HasSize, World, setting}
+use Rattle.cck_hasher.specs.Call.{Call}
+use Rattle.cck_hasher.specs.Step.{OwnPair, matching}
+use Rattle.cck_hasher.specs.Walk.{IsGood, IsOld}
+use Rattle.cck_hasher.specs.World.{HasSize, World, setting}
 use Rattle.cck_snapshot.proofs.Names.{is_good}
 use Rattle.cck_snapshot.specs.Laws.{OldIsAccepted}
 use Rattle.cck_snapshot.specs.Statuses.{TimesTell}

@@ -12,12 +12,12 @@ use Rattle.cck_entry.specs.Entry.{Entry, EntryText, added, is_over}
 use Rattle.cck_include.specs.Include.{Include}
 use Rattle.cck_path.specs.Bytes.{Bytes}
 use Rattle.cck_util.specs.Store.{HoldsOnly, Returned, Store, StoreFailure, StoreLaws, Stored}
-use Rattle.c_cache_keys.proofs.Elements.{all_pass, first_in, later_in}
+use Rattle.cck_hasher.proofs.Elements.{all_pass, first_in, later_in}
 use Rattle.c_cache_keys.proofs.Stored.{calm_part, record_matches, same_key, stored_key_is_returned, stores_own}
-use Rattle.c_cache_keys.specs.Call.{Call, CallResult, Done, Fault, Keyed}
+use Rattle.cck_hasher.specs.Call.{Call, CallResult, Done, Fault, Keyed}
 use Rattle.c_cache_keys.specs.Hits.{CanStore, SameRecords}
-use Rattle.c_cache_keys.specs.Step.{Ends, OwnPair, Stores, matching}
-use Rattle.c_cache_keys.specs.World.{World}
+use Rattle.cck_hasher.specs.Step.{Ends, OwnPair, Stores, matching}
+use Rattle.cck_hasher.specs.World.{World}
 use Rattle.cck_snapshot.proofs.AddedLemmas.{added_is_in, others_stay}
 use Rattle.cck_snapshot.proofs.Finds.{found_some}
 use Rattle.cck_snapshot.proofs.KeepingLemmas.{same_result}

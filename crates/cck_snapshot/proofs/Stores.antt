@@ -16,11 +16,11 @@ use Rattle.cck_util.specs.MapStore.{IsGot, IsMapPut, State, call_begun, map_stor
 use Rattle.cck_util.specs.Store.{Returned, Store, Stored}
 use Rattle.cck_util.specs.declared.store.StoreError.TheVariants as store
 use Rattle.c_cache_keys.proofs.Stored.{not_both, not_failed, same_key}
-use Rattle.c_cache_keys.specs.Call.{Call, CallResult, Fault, Keyed}
-use Rattle.c_cache_keys.specs.Keys.{preprocessor_key_of}
-use Rattle.c_cache_keys.specs.Step.{Ends, Gives, OwnPair, Step, Stores, asked, faulted, gives, made, matched, no_key, none_recorded, puts, refused, stopped, stops}
-use Rattle.c_cache_keys.specs.World.{World}
-use Rattle.c_cache_keys.specs.declared.call.CacheControl.TheVariants.{ForceRecache}
+use Rattle.cck_hasher.specs.Call.{Call, CallResult, Fault, Keyed}
+use Rattle.cck_hasher.specs.Keys.{preprocessor_key_of}
+use Rattle.cck_hasher.specs.Step.{Ends, Gives, OwnPair, Step, Stores, asked, faulted, gives, made, matched, no_key, none_recorded, puts, refused, stopped, stops}
+use Rattle.cck_hasher.specs.World.{World}
+use Rattle.cck_hasher.specs.declared.call.CacheControl.TheVariants.{ForceRecache}
 use Rattle.cck_snapshot.proofs.Hits.{made_fresh}
 use Rattle.cck_snapshot.proofs.Outcomes.{given_hit}
 use Rattle.cck_snapshot.proofs.Pairs.{find_one, holds_one, not_one_pair, put_one}

@@ -15,14 +15,14 @@ use Rattle.cck_digest.specs.Digest.{digest_text}
 use Rattle.cck_util.specs.Key.{material}
 use Rattle.jiff.specs.Types.{TimeZone}
 use Rattle.c_cache_keys.proofs.Stored.{not_both, not_failed}
-use Rattle.c_cache_keys.specs.Call.{CallResult, Call, Keyed, ReturnsError, Why}
+use Rattle.cck_hasher.specs.Call.{CallResult, Call, Keyed, ReturnsError, Why}
 use Rattle.cck_util.specs.Language.{is_preprocessed_first}
-use Rattle.c_cache_keys.specs.Keys.{extra_texts, input_file, input_recorded, key_material, plain_key, plain_parts, preprocessor_key_of, printed, request_parts, text_of, uses_cache}
+use Rattle.cck_hasher.specs.Keys.{extra_texts, input_file, input_recorded, key_material, plain_key, plain_parts, preprocessor_key_of, printed, request_parts, text_of, uses_cache}
 use Rattle.c_cache_keys.proofs.KeySame.{of_both}
-use Rattle.c_cache_keys.specs.Step.{Opened, OwnPair, Step, Stores, StopsMaking, StopsOpening, asked, extra_fault, faulted, gives, input_fault, made, making_lacks, marker, no_extra, no_input, no_key, no_text, no_used_input, none_recorded, opening_lacks, puts, refused, stopped, stops, text_fault, used_input_fault}
-use Rattle.c_cache_keys.specs.Walk.{Accepted, AreRecorded, Errs, IsGood, NotAccepted, Verdict, Walk}
-use Rattle.c_cache_keys.specs.World.{World, setting, world_of}
-use Rattle.c_cache_keys.specs.declared.call.CacheControl.TheVariants.{ForceRecache}
+use Rattle.cck_hasher.specs.Step.{Opened, OwnPair, Step, Stores, StopsMaking, StopsOpening, asked, extra_fault, faulted, gives, input_fault, made, making_lacks, marker, no_extra, no_input, no_key, no_text, no_used_input, none_recorded, opening_lacks, puts, refused, stopped, stops, text_fault, used_input_fault}
+use Rattle.cck_hasher.specs.Walk.{Accepted, AreRecorded, Errs, IsGood, NotAccepted, Verdict, Walk}
+use Rattle.cck_hasher.specs.World.{World, setting, world_of}
+use Rattle.cck_hasher.specs.declared.call.CacheControl.TheVariants.{ForceRecache}
 use Rattle.cck_snapshot.proofs.Names.{SameNames, all_recorded, walks}
 use Rattle.cck_snapshot.specs.External.{External, Prints, external_compiler}
 use Rattle.cck_snapshot.specs.LastPut.{IsKept, LastPut, last_put}

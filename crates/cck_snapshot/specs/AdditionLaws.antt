@@ -7,13 +7,13 @@ use Rattle.cck_files.specs.FileMap.{FileMap}
 use Rattle.cck_path.specs.Bytes.{Bytes}
 use Rattle.cck_util.specs.MapStore.{State, empty_state, map_store}
 use Rattle.cck_util.specs.Store.{Store, Stored}
-use Rattle.c_cache_keys.specs.Call.{Call, CallResult, Done, Fault, Keyed, calls_of}
-use Rattle.c_cache_keys.specs.Keys.{plain_key}
+use Rattle.cck_hasher.specs.Call.{Call, CallResult, Done, Fault, Keyed, calls_of}
+use Rattle.cck_hasher.specs.Keys.{plain_key}
 use Rattle.c_cache_keys.specs.Laws.{IsTransparent}
 use Rattle.c_cache_keys.specs.Premises.{Premises}
-use Rattle.c_cache_keys.specs.Step.{Chain, IsEmpty, Step}
-use Rattle.c_cache_keys.specs.World.{World}
-use Rattle.c_cache_keys.specs.declared.call.CacheControl.TheVariants.{ForceRecache}
+use Rattle.cck_hasher.specs.Step.{Chain, IsEmpty, Step}
+use Rattle.cck_hasher.specs.World.{World}
+use Rattle.cck_hasher.specs.declared.call.CacheControl.TheVariants.{ForceRecache}
 use Rattle.cck_snapshot.specs.Additions.{Holds, IsAddition}
 use Rattle.cck_snapshot.specs.Keeping.{EachOwn, IsHeldEntry, IsHeldOrEmpty, SoundEach, StepKeeping, StepOnto, adding}
 use Rattle.cck_snapshot.specs.Snapshot.{IsSnapshot, one_pair, over}

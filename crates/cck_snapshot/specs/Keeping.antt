@@ -5,9 +5,9 @@ use Rattle.cck_entry.specs.Entry.{Entry, EntryText, added}
 use Rattle.cck_include.specs.Include.{Include}
 use Rattle.cck_path.specs.Bytes.{Bytes}
 use Rattle.cck_util.specs.Store.{Store, StoreFailure, Stored}
-use Rattle.c_cache_keys.specs.Call.{Call, CallResult, Done, Fault}
-use Rattle.c_cache_keys.specs.Step.{Chain, OwnPair, Step}
-use Rattle.c_cache_keys.specs.World.{World}
+use Rattle.cck_hasher.specs.Call.{Call, CallResult, Done, Fault}
+use Rattle.cck_hasher.specs.Step.{Chain, OwnPair, Step}
+use Rattle.cck_hasher.specs.World.{World}
 
 -- What the put of an entry of one result does where this result is added to another entry: the store takes the text of that entry with the
 -- result. `base k e` says that a result may be added to the entry e under the key k.

@@ -7,13 +7,13 @@ use Rattle.cck_entry.specs.Find.{found_in}
 use Rattle.cck_include.specs.Include.{Include}
 use Rattle.cck_path.specs.Bytes.{Bytes}
 use Rattle.cck_util.specs.Store.{HoldsOnly, Store, StoreFailure}
-use Rattle.c_cache_keys.specs.Call.{Call, CallResult, Done, Fault, Keyed, calls_of}
+use Rattle.cck_hasher.specs.Call.{Call, CallResult, Done, Fault, Keyed, calls_of}
 use Rattle.c_cache_keys.specs.Hits.{CanStore, SameRecords}
-use Rattle.c_cache_keys.specs.Keys.{plain_key, preprocessor_key_of}
+use Rattle.cck_hasher.specs.Keys.{plain_key, preprocessor_key_of}
 use Rattle.c_cache_keys.specs.Laws.{CanHit, IsTransparent, ReturnsStored}
 use Rattle.c_cache_keys.specs.Premises.{Premises}
-use Rattle.c_cache_keys.specs.Step.{Chain, IsEmpty, OwnPair, Run, Sound, Step, matching}
-use Rattle.c_cache_keys.specs.World.{World}
+use Rattle.cck_hasher.specs.Step.{Chain, IsEmpty, OwnPair, Run, Sound, Step, matching}
+use Rattle.cck_hasher.specs.World.{World}
 use Rattle.cck_snapshot.specs.Keeping.{EachOwn, IsFirst, IsHeldEntry, IsHeldOrEmpty, RunKeeping, SoundEach, StepKeeping, StepOnto, adding}
 
 -- an entry that is held alone under the key has this result

@@ -11,14 +11,14 @@ use Rattle.cck_path.specs.Bytes.{Bytes}
 use Rattle.cck_path.specs.Path.{components}
 use Rattle.cck_util.specs.MapStore.{State, map_store, empty_state}
 use Rattle.cck_util.specs.Store.{Store, Stored}
-use Rattle.c_cache_keys.specs.Call.{Call, CallResult, Done, Fault, Keyed, calls_of}
-use Rattle.c_cache_keys.specs.Keys.{printed}
+use Rattle.cck_hasher.specs.Call.{Call, CallResult, Done, Fault, Keyed, calls_of}
+use Rattle.cck_hasher.specs.Keys.{printed}
 use Rattle.c_cache_keys.specs.Laws.{IsTransparent}
 use Rattle.c_cache_keys.specs.Premises.{Premises}
-use Rattle.c_cache_keys.specs.Step.{IsEmpty, OwnPair, Sound, Step, matching}
+use Rattle.cck_hasher.specs.Step.{IsEmpty, OwnPair, Sound, Step, matching}
 use Rattle.c_cache_keys.specs.Witness.{witness_run, witness_world}
-use Rattle.c_cache_keys.specs.World.{World}
-use Rattle.c_cache_keys.specs.declared.call.CacheControl.TheVariants.{ForceRecache}
+use Rattle.cck_hasher.specs.World.{World}
+use Rattle.cck_hasher.specs.declared.call.CacheControl.TheVariants.{ForceRecache}
 use Rattle.cck_snapshot.specs.Snapshot.{IsSnapshot, one_pair, over}
 use Rattle.cck_snapshot.specs.Statuses.{AreStatuses, AsksWith, HonestTimes, RunByStatuses, StepByStatuses, TimesTell, matching_with}
 

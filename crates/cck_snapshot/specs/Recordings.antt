@@ -4,11 +4,11 @@ use Rattle.cck_files.specs.FileMap.{FileMap}
 use Rattle.cck_digest.specs.declared.key_error.KeyError.{KeyError}
 use Rattle.cck_path.specs.Bytes.{Bytes}
 use Rattle.cck_util.specs.MapStore.{State, map_store, empty_state}
-use Rattle.c_cache_keys.specs.Call.{CallResult, Keyed, Memory, NoText, ReturnsError, TextFault, Why}
-use Rattle.c_cache_keys.specs.Keys.{printed}
-use Rattle.c_cache_keys.specs.Seen.{why_of}
-use Rattle.c_cache_keys.specs.Step.{Step}
-use Rattle.c_cache_keys.specs.declared.call.CacheControl.TheVariants.{ForceRecache}
+use Rattle.cck_hasher.specs.Call.{CallResult, Keyed, Memory, NoText, ReturnsError, TextFault, Why}
+use Rattle.cck_hasher.specs.Keys.{printed}
+use Rattle.cck_hasher.specs.Seen.{why_of}
+use Rattle.cck_hasher.specs.Step.{Step}
+use Rattle.cck_hasher.specs.declared.call.CacheControl.TheVariants.{ForceRecache}
 use Rattle.cck_snapshot.specs.External.{Prints}
 use Rattle.cck_snapshot.specs.Requests.{call_for, world_for}
 use Rattle.cck_snapshot.specs.Snapshot.{one_pair}

@@ -8,10 +8,10 @@ use Rattle.cck_files.specs.FileMap.{FileMap, FileNode}
 use Rattle.cck_path.specs.Bytes.{Bytes}
 use Rattle.cck_path.specs.Path.{Path}
 use Rattle.cck_util.specs.MapStore.{State, map_store, empty_state}
-use Rattle.c_cache_keys.specs.Call.{Call, Keyed}
-use Rattle.c_cache_keys.specs.Keys.{extra_texts, preprocessor_key_of}
-use Rattle.c_cache_keys.specs.World.{World}
-use Rattle.c_cache_keys.specs.declared.call.CacheControl.TheVariants.{Default}
+use Rattle.cck_hasher.specs.Call.{Call, Keyed}
+use Rattle.cck_hasher.specs.Keys.{extra_texts, preprocessor_key_of}
+use Rattle.cck_hasher.specs.World.{World}
+use Rattle.cck_hasher.specs.declared.call.CacheControl.TheVariants.{Default}
 use Rattle.cck_snapshot.specs.External.{Prints, no_text}
 use Rattle.cck_snapshot.specs.Requests.{call_for, world_for}
 use Rattle.cck_snapshot.specs.Statuses.{AsksWith, matching_with}

@@ -9,12 +9,12 @@ use Rattle.cck_path.specs.Bytes.{Bytes}
 use Rattle.cck_path.specs.Path.{Path}
 use Rattle.cck_path.specs.declared.metadata.Metadata.{Metadata}
 use Rattle.cck_util.specs.Store.{Returned, Store}
-use Rattle.c_cache_keys.specs.Call.{Call, CallResult, Done, Fault}
-use Rattle.c_cache_keys.specs.Keys.{preprocessor_key_of}
+use Rattle.cck_hasher.specs.Call.{Call, CallResult, Done, Fault}
+use Rattle.cck_hasher.specs.Keys.{preprocessor_key_of}
 use Rattle.c_cache_keys.specs.Premises.{IsBefore}
-use Rattle.c_cache_keys.specs.Step.{Chain, Ends, Gives, Opened, Step}
-use Rattle.c_cache_keys.specs.World.{World, setting}
-use Rattle.c_cache_keys.specs.declared.call.CacheControl.TheVariants.{Default}
+use Rattle.cck_hasher.specs.Step.{Chain, Ends, Gives, Opened, Step}
+use Rattle.cck_hasher.specs.World.{World, setting}
+use Rattle.cck_hasher.specs.declared.call.CacheControl.TheVariants.{Default}
 
 -- each is the status of the node at its path
 abbrev pub AreStatuses : FileMap → Statuses → Type 0

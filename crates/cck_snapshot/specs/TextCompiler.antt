@@ -3,9 +3,9 @@ use Rattle.cck_compiler.specs.Compiler.{Compiler, NotCompilation}
 use Rattle.cck_path.specs.Bytes.{Bytes}
 use Rattle.std.specs.Prelude.{◌≡◌, List, Some}
 use Rattle.cck_path.specs.Variables.{Variable}
-use Rattle.c_cache_keys.specs.Call.{Call, Request}
-use Rattle.c_cache_keys.specs.Conditions.{request_of}
-use Rattle.c_cache_keys.specs.declared.hasher.CCompilerHasher.{CCompilerHasher}
+use Rattle.cck_hasher.specs.Call.{Call, Request}
+use Rattle.cck_hasher.specs.Conditions.{request_of}
+use Rattle.cck_hasher.specs.declared.hasher.CCompilerHasher.{CCompilerHasher}
 use Rattle.cck_snapshot.specs.External.{External, external_of}
 use Rattle.cck_snapshot.specs.declared.compiler.ExternalCompiler.{ExternalCompiler}
 use Rattle.cck_snapshot.specs.declared.text_compiler.TextCompiler.{TextCompiler}

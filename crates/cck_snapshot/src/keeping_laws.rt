@@ -3,7 +3,7 @@
 ghost use Rattle.std.specs.Prelude.{ℕ, List};
 ghost use Rattle.cck_include.specs.declared.config.PreprocessorCacheModeConfig.{PreprocessorCacheModeConfig};
 ghost use Rattle.jiff.specs.Types.{TimeZone};
-ghost use Rattle.c_cache_keys.specs.World.{world_of};
+ghost use Rattle.cck_hasher.specs.World.{world_of};
 ghost use Rattle.cck_snapshot.specs.KeepingLaws.{HeadlineKeeping, HeadlineOnEarlier, HitIsPlainEach, MatchIsPlain, MatchesAreOne, NewIsHeld, ResultIsReturned, ResultStays, RunIsKeeping, SoundIsEach, StaysSoundEach, StaysSoundOnto, StepIsFirst, StoredIsHitEach};
 
 use c_cache_keys::{CCompilerImpl, PreprocessorStore};

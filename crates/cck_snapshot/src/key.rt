@@ -1,10 +1,10 @@
 //! Preprocessor keys.
 ghost use Rattle.std.specs.Prelude.{IfErr, IfOk};
 ghost use Rattle.cck_files.specs.Calls.{Keeps, Rose};
-ghost use Rattle.c_cache_keys.specs.Opening.{IsPreprocessorKey};
-ghost use Rattle.c_cache_keys.specs.Seen.{why_of};
-ghost use Rattle.c_cache_keys.specs.Step.{StopsOpening};
-ghost use Rattle.c_cache_keys.specs.declared.call.CacheControl.TheVariants.{Default};
+ghost use Rattle.cck_hasher.specs.Opening.{IsPreprocessorKey};
+ghost use Rattle.cck_hasher.specs.Seen.{why_of};
+ghost use Rattle.cck_hasher.specs.Step.{StopsOpening};
+ghost use Rattle.cck_hasher.specs.declared.call.CacheControl.TheVariants.{Default};
 ghost use Rattle.cck_snapshot.specs.External.{no_text};
 ghost use Rattle.cck_snapshot.specs.Requests.{call_for, world_for};
 

@@ -4,7 +4,7 @@ ghost use Rattle.std.specs.Prelude.{ℕ, List};
 ghost use Rattle.cck_include.specs.declared.config.PreprocessorCacheModeConfig.{PreprocessorCacheModeConfig};
 ghost use Rattle.jiff.specs.Types.{TimeZone};
 ghost use Rattle.c_cache_keys.specs.Laws.{Headline};
-ghost use Rattle.c_cache_keys.specs.World.{world_of};
+ghost use Rattle.cck_hasher.specs.World.{world_of};
 ghost use Rattle.cck_snapshot.specs.External.{Prints, external_compiler};
 ghost use Rattle.cck_snapshot.specs.Laws.{HeadlineByStatuses, HitOnAnyStore, HitOverAll, HonestTimesCanHold, NoStatusesIsStep, NothingOnAnyStore, OldIsAccepted, RecordingOnAnyStore, RecordingOverAll, StatusesAreMatches, StepIsStep};
 

@@ -1,8 +1,8 @@
 //! Recordings.
 ghost use Rattle.std.specs.Prelude.{◌≡◌, ◌⊎◌, IfErr, IfOk, Some, string_bytes};
 ghost use Rattle.cck_files.specs.Calls.{Keeps, Rose};
-ghost use Rattle.c_cache_keys.specs.Call.{ReturnsError};
-ghost use Rattle.c_cache_keys.specs.Seen.{result_of, why_of};
+ghost use Rattle.cck_hasher.specs.Call.{ReturnsError};
+ghost use Rattle.cck_hasher.specs.Seen.{result_of, why_of};
 ghost use Rattle.cck_snapshot.specs.Recordings.{HasText, IsRecording, IsRecordingError, given_text, key_of};
 
 use crate::last_put::LastPut;

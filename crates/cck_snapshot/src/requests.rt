@@ -1,7 +1,7 @@
 //! Requests over snapshots.
 ghost use Rattle.std.specs.Prelude.{◌≡◌};
-ghost use Rattle.c_cache_keys.specs.Conditions.{given_of};
-ghost use Rattle.c_cache_keys.specs.declared.call.CacheControl.TheVariants.{Default};
+ghost use Rattle.cck_hasher.specs.Conditions.{given_of};
+ghost use Rattle.cck_hasher.specs.declared.call.CacheControl.TheVariants.{Default};
 ghost use Rattle.cck_snapshot.specs.Requests.{given_in};
 
 use crate::compiler::ExternalCompiler;

@@ -4,7 +4,7 @@ use Rattle.jiff.specs.Words.{plain_zone}
 use Rattle.c_cache_keys.proofs.Ran.{after_more, all_returned, all_run, returned_more, rest_more, untouched}
 use Rattle.c_cache_keys.proofs.Runs.{transparent}
 use Rattle.c_cache_keys.proofs.Stored.{run_returns_stored}
-use Rattle.c_cache_keys.specs.World.{world_of}
+use Rattle.cck_hasher.specs.World.{world_of}
 use Rattle.c_cache_keys.proofs.calls.run_calls.Goals as goal
 
 pub returns-in_err-call_results-clause-keeps : goal.returns-in_err-call_results-clause-keeps

@@ -4,7 +4,7 @@ use Rattle.std.specs.List.{AllZip}
 use Rattle.cck_path.specs.Bytes.{lists_of}
 use Rattle.jiff.specs.Words.{plain_zone}
 use Rattle.c_cache_keys.specs.Calls.{AreReturned, IsAfter}
-use Rattle.c_cache_keys.specs.World.{world_of}
+use Rattle.cck_hasher.specs.World.{world_of}
 use Rattle.c_cache_keys.proofs.calls.run_calls.Given as goal
 
 -- the calls made so far, those that are left, and the room for their results

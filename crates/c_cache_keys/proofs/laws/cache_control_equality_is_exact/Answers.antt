@@ -1,5 +1,5 @@
 use denote.Enum.Bare.{same_true, true_same}
-use Rattle.c_cache_keys.specs.contracts.call.CacheControl.{the_type}
+use Rattle.cck_hasher.specs.contracts.call.CacheControl.{the_type}
 use Rattle.c_cache_keys.proofs.laws.cache_control_equality_is_exact.Goals as goal
 
 pub returns : goal.returns

@@ -1,8 +1,8 @@
 use Rattle.std.proofs.Common.{Option, Some, string_bytes, [], refl, sym, subst}
 use Rattle.std.proofs.lemmas.Result.{IfOk-weaker}
-use Rattle.c_cache_keys.specs.Opening.{IsPreprocessorKey}
-use Rattle.c_cache_keys.specs.declared.call.CacheControl.TheVariants.{Default}
-use Rattle.c_cache_keys.specs.declared.hasher.opening.PreprocessorKey.{PreprocessorKey}
+use Rattle.cck_hasher.specs.Opening.{IsPreprocessorKey}
+use Rattle.cck_hasher.specs.declared.call.CacheControl.TheVariants.{Default}
+use Rattle.cck_hasher.specs.declared.hasher.opening.PreprocessorKey.{PreprocessorKey}
 use Rattle.cck_files.specs.FileMap.{FileMap}
 use Rattle.cck_snapshot.specs.External.{no_text}
 use Rattle.cck_snapshot.specs.Requests.{call_for, world_for}

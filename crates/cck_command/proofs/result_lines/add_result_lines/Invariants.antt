@@ -1,6 +1,6 @@
 use Rattle.std.proofs.Common.{◌≡◌, ◌++◌, map, take}
 use Rattle.std.specs.List.{flat_map}
-use Rattle.c_cache_keys.specs.Seen.{result_of}
+use Rattle.cck_hasher.specs.Seen.{result_of}
 use Rattle.cck_command.specs.Run.{result_line}
 use Rattle.cck_command.proofs.result_lines.add_result_lines.Given as goal
 

@@ -2,7 +2,7 @@ use Rattle.std.proofs.Common.{subst}
 use Rattle.std.specs.Option.{option_to_list}
 use Rattle.cck_path.specs.Bytes.{lists_of}
 use Rattle.jiff.specs.Words.{plain_zone}
-use Rattle.c_cache_keys.specs.World.{world_of}
+use Rattle.cck_hasher.specs.World.{world_of}
 use Rattle.cck_include.specs.Config.{activated}
 use Rattle.cck_command.specs.Made.{AreMade}
 use Rattle.cck_command.specs.MiniCompiler.{mini_compiler}

@@ -3,7 +3,7 @@ use Rattle.cck_path.specs.Bytes.{lists_of}
 use Rattle.jiff.specs.Words.{plain_zone}
 use Rattle.cck_script.specs.Script.{zone_of}
 use Rattle.cck_script.specs.Seen.{line_of, lines_of}
-use Rattle.c_cache_keys.specs.World.{world_of}
+use Rattle.cck_hasher.specs.World.{world_of}
 use Rattle.cck_include.specs.Config.{activated}
 use Rattle.cck_command.specs.Made.{AreMade}
 use Rattle.cck_command.specs.MiniCompiler.{mini_compiler}

@@ -2,8 +2,8 @@ use Rattle.std.proofs.Common.{◌∙◌, ◌∷◌, ◌++◌, [], ap, map}
 use Rattle.std.specs.List.{flat_map}
 use Rattle.cck_path.specs.Bytes.{lists_of}
 use Rattle.jiff.specs.Words.{plain_zone}
-use Rattle.c_cache_keys.specs.Seen.{result_of}
-use Rattle.c_cache_keys.specs.World.{world_of}
+use Rattle.cck_hasher.specs.Seen.{result_of}
+use Rattle.cck_hasher.specs.World.{world_of}
 use Rattle.cck_command.proofs.MadeLemmas.{only_call}
 use Rattle.cck_command.specs.MiniCompiler.{mini_compiler}
 use Rattle.cck_command.specs.Run.{result_line}

@@ -1,6 +1,6 @@
 use Rattle.cck_path.specs.Bytes.{lists_of}
 use Rattle.jiff.specs.Words.{plain_zone}
-use Rattle.c_cache_keys.specs.World.{world_of}
+use Rattle.cck_hasher.specs.World.{world_of}
 use Rattle.cck_command.specs.MiniCompiler.{mini_compiler}
 use Rattle.cck_command.specs.Run.{armed_by}
 use Rattle.cck_script.specs.Calls.{script_calls}

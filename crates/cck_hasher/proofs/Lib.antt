@@ -1,0 +1,14 @@
+pub mod Asked
+pub mod Decisions
+pub mod Elements
+pub mod IncludedLemmas
+pub mod Includes
+pub mod Judgements
+pub mod Made
+pub mod NameTests
+pub mod Opened
+pub mod PathEntries
+pub mod Reasons
+pub mod Stepped
+pub mod Walked
+pub mod Widen

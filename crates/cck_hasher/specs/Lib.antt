@@ -1,0 +1,16 @@
+pub mod Asking
+pub mod Call
+pub mod Conditions
+pub mod Errors
+pub mod Hasher
+pub mod Included
+pub mod Keys
+pub mod Making
+pub mod Opening
+pub mod Reasons
+pub mod Seen
+pub mod Step
+pub mod Storing
+pub mod Walk
+pub mod Walked
+pub mod World
