@@ -762,15 +762,16 @@ cck_reading='
 # What `judge_text` does with what the preprocessor printed on standard error, and with the text.
 #
 # In C a pragma that sets macros of the target, or attributes that are known, is run by the compiler alone. The compiler's own
-# headers set them back, to what the target has but for one, and include none of the project. The compiler knows declarations, by which
-# `__has_builtin` is 0, and more builtin functions of the target after an attribute, whose names may be pasted. A header
-# that is found in a directory of system headers only later has its shorter name from then on. A file between `<` and `>` is
-# named as what the compiler defines itself. A backslash or a quote in a name has a backslash before it, which nothing takes
-# away. A line directive enters no file; a marker in a source, or in a raw string over lines, is not told from one of gcc.
-# After the input has begun, a marker with another name that neither enters nor leaves a file is of a line directive.
-# With OpenMP or OpenACC the compiler expands macros in a pragma, which an operator may make of any line. In a pragma of
-# diagnostics or of visibility it expands none; one that turns a warning on may warn of a macro that the text does not show.
-# What is pasted after `> struct` is the name of a class, unless `struct` is a macro, or a parameter of that definition.
+# headers set them back to what the target has, but for one macro (`changes_targets`), and include none of the project. The
+# compiler knows declarations, by which `__has_builtin` is 0, and more builtin functions of the target after an attribute,
+# whose names may be pasted. A header that is found in a directory of system headers only later has its shorter name from
+# then on. A file between `<` and `>` is named as what the compiler defines itself. A backslash or a quote in a name has a
+# backslash before it, which nothing takes away. A line directive enters no file; a marker in a source, or in a raw string
+# over lines, is not told from one of gcc. After the input has begun, a marker with another name that neither enters nor
+# leaves a file is of a line directive. With OpenMP or OpenACC the compiler expands macros in a pragma, which an operator
+# may make of any line. In a pragma of diagnostics or of visibility it expands none; one that turns a warning on may warn of
+# a macro that the text does not show. What is pasted after `> struct` is the name of a class, unless `struct` is a macro,
+# or a parameter of that definition.
 cck_judging='
     !is_text {
         if (/warning: /) warns = 1
@@ -889,18 +890,19 @@ judge_arguments() {
 
 # Whether a file of the project, or an argument, defines or undefines what may be a macro of the target, by a text that
 # has these directives (-dD). A name that ends as that of a guard is none. The compiler leaves __MMX_WITH_SSE__ defined after
-# its own headers for 64 bits without SSE2. The status is 1 if there is none.
+# its own headers for 64 bits without SSE2, and where the text does not say what the target is (-undef), it may. The status
+# is 1 if there is none.
 changes_targets() {
     cck_own=$cck_own LC_ALL=C awk '
         BEGIN { own = "\"" ENVIRON["cck_own"] }
-        /^#define __x86_64__ / { is_wide = 1 }
+        /^#define __i386__ / { is_narrow = 1 }
         /^#define __MMX_WITH_SSE__ / { has_sse = 1 }
         /^# [0-9]+ "/ {
             is_other = $3 == "\"<built-in>\"" || index($3, own) == 1 || index($3, "\"/usr/include/") == 1
             if ($3 ~ /\/\.\.\//) is_other = 0
         }
         !is_other && /^#(define|undef) __[A-Za-z0-9_]*__/ && $2 !~ /^[A-Za-z0-9_]*_[Hh]__$/ { found = 1; exit }
-        END { exit !found && (has_sse || !is_wide) }' "$1"
+        END { exit !found && (has_sse || is_narrow) }' "$1"
 }
 
 # Whether the compilation declares a builtin function, which `__has_builtin` then denies: the compiler lists the functions
