@@ -5,9 +5,11 @@ pub mod FieldLemmas
 pub mod GreatestLemmas
 pub mod IncludeLoop
 pub mod InsertLemmas
+pub mod KnownLemmas
 pub mod LawLemmas
 pub mod LentLemmas
 pub mod LookupLemmas
+pub mod MatchLemmas
 pub mod MaterialLemmas
 pub mod ResultLoop
 pub mod StatusLemmas

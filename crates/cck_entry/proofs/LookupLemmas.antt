@@ -9,7 +9,7 @@ use Rattle.cck_entry.specs.Find.{found_in, IsLookup}
 use Rattle.cck_entry.specs.Results.{KeyResult}
 use Rattle.cck_files.proofs.CallsLemmas.{rose_later, rose_earlier}
 use Rattle.cck_include.specs.Include.{Include}
-use Rattle.cck_include.specs.Matching.{MayMiss}
+use Rattle.cck_entry.specs.Matching.{MayMiss}
 
 reverse_push : {A : Type 0} (xs : List A) (x : A) → reverse (xs ++ x ∷ []) ≡ x ∷ reverse xs
 reverse_push xs x = reverse-append xs (x ∷ [])

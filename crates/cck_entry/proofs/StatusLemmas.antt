@@ -3,7 +3,7 @@ use Rattle.std.proofs.Common.{◌≡◌, Bool, ◌||◌, Option, None, ap, ◌�
 use Rattle.std.specs.FinMap.{empty, get, get-empty}
 use Rattle.cck_files.specs.FileMap.{FileMap}
 use Rattle.cck_include.specs.Include.{Include}
-use Rattle.cck_include.specs.Matching.{matches}
+use Rattle.cck_entry.specs.Matching.{matches}
 use Rattle.cck_include.specs.Setting.{Setting}
 use Rattle.cck_path.specs.Path.{components, path_cmp}
 use Rattle.cck_path.specs.declared.metadata.Metadata.{Metadata}

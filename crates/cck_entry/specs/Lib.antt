@@ -1,8 +1,10 @@
 pub mod Entry
 pub mod Equality
 pub mod Find
+pub mod Known
 pub mod Laws
 pub mod Lent
+pub mod Matching
 pub mod PreprocessorKey
 pub mod PreprocessorKeyRequest
 pub mod Reading

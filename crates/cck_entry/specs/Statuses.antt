@@ -4,7 +4,7 @@ use Rattle.std.specs.FinMap.{FinMap, get}
 use Rattle.std.specs.Option.{is_some}
 use Rattle.cck_files.specs.FileMap.{FileMap}
 use Rattle.cck_include.specs.Include.{Include}
-use Rattle.cck_include.specs.Matching.{matches, times_agree}
+use Rattle.cck_entry.specs.Matching.{matches, times_agree}
 use Rattle.cck_include.specs.Setting.{Setting}
 use Rattle.cck_path.specs.Path.{components, path_cmp}
 use Rattle.cck_path.specs.declared.metadata.FileKind.{FileKind}

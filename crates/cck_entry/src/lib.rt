@@ -16,13 +16,16 @@
 //! - [`EntryView`] is an entry borrowed from its bytes; [`EntryView::read`] accepts the same bytes.
 //!   [`EntryView::lookup_result_digest`] finds the same result, and nothing but the places of the
 //!   results is kept in memory. [`EntryView::lookup_with_statuses`] does not read a file whose status
-//!   is known and [shows](status_accepts) that it is the one that was included. [`EntryView::results`] are its results, each a [`ResultRef`], and
-//!   [`ResultRef::includes`] yields the [`Includes`] of one.
+//!   is known and [shows](status_accepts) that it is the one that was included.
+//!   [`EntryView::results`] are its results, each a [`ResultRef`], and [`ResultRef::includes`]
+//!   yields the [`Includes`] of one.
 //! - [`laws`] has what is proved of the definitions alone.
 //!
-//! [`includes_match`] says whether all includes of a result are unchanged, and [`include_matches`]
-//! whether one is, an [`IncludeRef`]. [`KnownFiles`] keeps what they found of each file, and
-//! [`JudgeContext`] is what files are judged by.
+//! [`includes_match`] says whether all includes of a result are unchanged. A file of another size is
+//! not; where the options let its times decide, it need not be read. [`include_matches`] says so of
+//! one file, an [`IncludeRef`], whose path and digest may be borrowed from other bytes. [`KnownFiles`]
+//! keeps what they found of each file, so that no file is read twice, and [`JudgeContext`] is what
+//! files are judged by.
 //!
 //! The types that these calls take and return are exported again: hash functions and errors of
 //! `cck_digest`, files of `cck_files`, metadata and times of `cck_path`, and [`Language`] of
@@ -73,9 +76,11 @@
 mod adding;
 mod entry;
 mod includes;
+mod known;
 pub mod laws;
 mod lent;
 mod lookup;
+mod matching;
 mod preprocessor_key;
 mod reading;
 mod result_ref;
@@ -87,13 +92,15 @@ mod writing;
 pub use cck_digest::{Error, FileError, HashState, Sha256State, UtilError};
 pub use cck_files::{Files, MapFiles, Node};
 pub use cck_include::{
-    IncludeEntry, IncludeRef, JudgeContext, KnownFiles, PreprocessorCacheModeConfig, gather,
-    include_matches, includes_match, local_time_part, recorded_digest,
+    IncludeEntry, IncludeRef, JudgeContext, PreprocessorCacheModeConfig, gather, local_time_part,
+    recorded_digest,
 };
 pub use cck_path::{FileKind, Metadata, PathMap, Timestamp};
 pub use cck_util::{Language, UnknownLanguage};
 pub use entry::PreprocessorCacheEntry;
 pub use includes::Includes;
+pub use known::KnownFiles;
+pub use matching::{include_matches, includes_match, times_agree};
 pub use preprocessor_key::{
     FORMAT_VERSION, PreprocessorKeyRequest, hashed_directory, preprocessor_cache_entry_hash_key,
 };

@@ -5,13 +5,14 @@ ghost use Rattle.cck_files.specs.Calls.{Keeps, Rose};
 ghost use Rattle.cck_path.specs.Path.{components};
 ghost use Rattle.cck_include.specs.Include.{include_lent};
 ghost use Rattle.cck_include.specs.JudgeContext.{setting_of};
-ghost use Rattle.cck_include.specs.Known.{AreKnown};
-ghost use Rattle.cck_include.specs.Matching.{MayMiss};
+ghost use Rattle.cck_entry.specs.Known.{AreKnown};
+ghost use Rattle.cck_entry.specs.Matching.{MayMiss};
 ghost use Rattle.cck_entry.specs.Statuses.{is_regular, known_accepts, matches_with, status_accepts};
 
+use crate::{KnownFiles, include_matches, times_agree};
 use cck_digest::HashState;
 use cck_files::Files;
-use cck_include::{IncludeRef, JudgeContext, KnownFiles, include_matches, times_agree};
+use cck_include::{IncludeRef, JudgeContext};
 use cck_path::{FileKind, Metadata, PathMap};
 use std::alloc::{AllocError, Global};
 

@@ -1,0 +1,11 @@
+pub mod Buffer
+pub mod Difference
+pub mod ExplainKeyRequest
+pub mod Judged
+pub mod Key
+pub mod Listing
+pub mod Note
+pub mod Part
+pub mod Run
+pub mod ScriptListing
+pub mod Written

@@ -4,11 +4,39 @@
 //! prints the parts of its key material, a line each, and its key. `cck_explain entry` reads an entry
 //! of the store and prints its results and their includes. `cck_explain markers INPUT CWD` reads a
 //! preprocessed text and prints its line markers. `cck_explain script` reads a script of `cck run` and
-//! prints what each of its calls did. Errors go to standard error. `main` only passes what the words ask
-//! for and the standard streams to [`run`].
+//! prints what each of its calls did. Errors go to standard error.
+//!
+//! `main` passes what the words ask for and the standard streams to [`run`](program::run), which is
+//! over any reader and any writers.
+//!
+//! # Scripts
+//!
+//! [`script_listing`](script_calls::script_listing) makes the calls of a script, as [`cck_command`]
+//! does, on a [`WatchedStore`](watched_store::WatchedStore), which keeps what is asked of it. For each
+//! call the listing has the preprocessor key, what the store returned, which included files of a
+//! stored result did not match and how, what was put, and the line that `cck run` prints.
+//! [`difference_of`](difference::difference_of) says how an included file differs.
 #![tactic(auto)]
 
-use cck_explain_command::{language_names, report, request_of, run};
+mod buffer;
+mod difference;
+mod entry;
+mod error;
+mod key;
+mod laws;
+mod line;
+mod markers;
+mod note;
+mod part;
+mod program;
+mod request;
+mod script;
+mod script_calls;
+mod watched_store;
+mod words;
+
+use crate::program::{report, run};
+use crate::words::{language_names, request_of};
 use cck_util::Sha256State;
 use std::env;
 use std::io::ErrorKind;

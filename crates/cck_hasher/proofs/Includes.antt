@@ -17,7 +17,7 @@ use Rattle.cck_files.proofs.FileLemmas.{kind_of_file}
 use Rattle.cck_files.specs.FileMap.{FileMap, FileNode, contents_of_kind, file_at, file_in, metadata_at, metadata_in, metadata_of}
 use Rattle.cck_include.specs.Gathered.{Digested, are_before, gathered_include, include_of, include_of_metadata, is_before, kept}
 use Rattle.cck_include.specs.Include.{Include}
-use Rattle.cck_include.specs.Matching.{file_matches, is_digest, matches, times_accept}
+use Rattle.cck_entry.specs.Matching.{file_matches, is_digest, matches, times_accept}
 use Rattle.cck_include.specs.Recorded.{recorded}
 use Rattle.cck_include.specs.Setting.{Setting}
 use Rattle.cck_path.specs.Bytes.{Bytes}

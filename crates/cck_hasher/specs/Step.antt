@@ -7,7 +7,7 @@ use Rattle.cck_path.specs.Bytes.{Bytes}
 use Rattle.cck_entry.specs.Entry.{Entry, EntryText}
 use Rattle.cck_entry.specs.Find.{found_in}
 use Rattle.cck_include.specs.Include.{Include}
-use Rattle.cck_include.specs.Matching.{matches}
+use Rattle.cck_entry.specs.Matching.{matches}
 use Rattle.cck_util.specs.Store.{Returned, Store, Stored}
 use Rattle.cck_util.specs.declared.store.StoreError.TheVariants as store
 use Rattle.cck_hasher.specs.Call.{CallResult, Call, Done, Fault, Keyed, ReturnsError, Why, Memory, Extra, ExtraFault, Input, InputFault, Store as StoreFails, Damaged, NoText, TextFault, Marker}

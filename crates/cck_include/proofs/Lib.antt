@@ -4,9 +4,7 @@ pub mod EqualityLemmas
 pub mod ErrorLemmas
 pub mod EveryDayLemmas
 pub mod GatherLemmas
-pub mod KnownLemmas
 pub mod LawLemmas
-pub mod MatchLemmas
 pub mod NumberLemmas
 pub mod PartLemmas
 pub mod PresenceLemmas

@@ -4,9 +4,7 @@ pub mod Errors
 pub mod Gathered
 pub mod Include
 pub mod JudgeContext
-pub mod Known
 pub mod Laws
-pub mod Matching
 pub mod Recorded
 pub mod Scan
 pub mod Setting

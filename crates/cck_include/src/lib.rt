@@ -1,5 +1,5 @@
-//! Included files: what is recorded of them, and whether they still match it; what their time macros
-//! show, and the options of the preprocessor cache mode.
+//! Included files: what is recorded of them, what their time macros show, and the options of the
+//! preprocessor cache mode.
 //!
 //! The digest of a file's contents does not determine the text that the file shows to a
 //! preprocessor. A `__DATE__` in it shows another text tomorrow, and a `__TIMESTAMP__` once the
@@ -11,21 +11,14 @@
 //! - [`recorded_digest`] returns that digest of one file.
 //! - [`gather`] records each file that a result included as an [`IncludeEntry`]: its path, recorded
 //!   digest and size, and its times where both are before the call time.
-//! - [`includes_match`] returns whether such files still match. A file of another size does not;
-//!   where the options let its times decide, it need not be read. [`include_matches`] does so for
-//!   one file, an [`IncludeRef`], whose path and digest may be borrowed from other bytes.
-//!   [`KnownFiles`] keeps what one look-up finds, so that it reads no file twice. Both judge files
-//!   by a [`JudgeContext`].
+//!   An [`IncludeRef`] is the same with its path and digest borrowed from other bytes.
+//! - [`JudgeContext`] is what a recorded digest depends on beside the file.
 //! - [`laws`] states what equal recorded digests imply, and what equal time parts do: the same day,
 //!   second and `SOURCE_DATE_EPOCH`; that each day has one date; and when there is a time part.
 //!
 //! ```rust
 //! // `digest` is the recorded digest of `/w/h.h` at `moment`.
 //! let includes = gather(alloc, &mut files, moment, &[(digest, path)])?;
-//! let mut known = KnownFiles::new(alloc);
-//! let context = JudgeContext { moment: later, zone: &zone, vars: &[], config };
-//! includes_match::<Sha256State, MapFiles>(alloc, &mut files, &mut known, &includes, &context)?;
-//! // `true`, until `/w/h.h` has other contents, or one of its time macros shows another text
 //! ```
 //!
 //! # Time parts and options
@@ -53,9 +46,7 @@ mod errors;
 mod gathering;
 mod include;
 mod judge_context;
-mod known;
 pub mod laws;
-mod matching;
 mod part;
 mod recorded;
 
@@ -63,7 +54,5 @@ pub use config::PreprocessorCacheModeConfig;
 pub use gathering::gather;
 pub use include::{IncludeEntry, IncludeRef};
 pub use judge_context::JudgeContext;
-pub use known::KnownFiles;
-pub use matching::{include_matches, includes_match, times_agree};
 pub use part::local_time_part;
-pub use recorded::recorded_digest;
+pub use recorded::{digest_with_metadata, recorded_digest};

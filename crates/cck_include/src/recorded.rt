@@ -179,8 +179,8 @@ pub fn recorded_digest<H: HashState, F: Files>(
 }
 
 /// The recorded digest of the file at a path that has this metadata, as [`recorded_digest`] returns
-/// it.
-pub(crate) fn digest_with_metadata<H: HashState, F: Files>(
+/// it, with the same errors. The metadata is not asked for again. Every call on files is at this path.
+pub fn digest_with_metadata<H: HashState, F: Files>(
     alloc: Global,
     files: &mut F,
     path: &[u8],

@@ -15,7 +15,7 @@ use Rattle.cck_entry.specs.Results.{KeyResult}
 use Rattle.cck_entry.specs.Statuses.{Statuses, known_accepts, matches_with}
 use Rattle.cck_files.specs.FileMap.{FileMap, FileNode, file_at, file_in, folder_at, folder_in}
 use Rattle.cck_include.specs.Include.{Include}
-use Rattle.cck_include.specs.Matching.{file_matches, matches}
+use Rattle.cck_entry.specs.Matching.{file_matches, matches}
 use Rattle.cck_include.specs.Recorded.{recorded}
 use Rattle.cck_include.specs.Setting.{Setting}
 use Rattle.cck_path.specs.Bytes.{Bytes}

@@ -12,7 +12,7 @@ use Rattle.cck_files.specs.FileMap.{FileMap, FileNode, contents_of_kind, file_at
 use Rattle.std.specs.FinMap.{get}
 use Rattle.cck_include.specs.Gathered.{are_before, is_before}
 use Rattle.cck_include.specs.Include.{Include}
-use Rattle.cck_include.specs.Matching.{is_moment, times_agree}
+use Rattle.cck_entry.specs.Matching.{is_moment, times_agree}
 use Rattle.cck_include.specs.Recorded.{file_time_part, has_time, is_timed, recorded, recorded_by}
 use Rattle.cck_path.proofs.EqualityLemmas.{moment_decides}
 use Rattle.cck_path.proofs.MomentLemmas.{equal_fields}

@@ -1,7 +1,7 @@
 //! The look-up of a key in the store. Nothing here takes a compiler.
 ghost use Rattle.std.specs.Prelude.{◌≡◌, IfErr, List, Some, option_map, ℕ};
 ghost use Rattle.cck_files.specs.Calls.{Keeps, Rose};
-ghost use Rattle.cck_include.specs.Matching.{matches};
+ghost use Rattle.cck_entry.specs.Matching.{matches};
 ghost use Rattle.cck_hasher.specs.Asking.{AsksBy, IsFoundBy, asked_of};
 ghost use Rattle.cck_hasher.specs.Conditions.{given_of, setting_under};
 ghost use Rattle.cck_hasher.specs.Opening.{text_of};

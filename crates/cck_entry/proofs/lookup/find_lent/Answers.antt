@@ -5,8 +5,8 @@ use Rattle.std.specs.Iterator.Adapters.{rev_source}
 use Rattle.std.specs.Slice.Iter.{iter_rest}
 use Rattle.cck_files.proofs.CallsLemmas.{keeps_all, keeps_itself}
 use Rattle.cck_files.specs.Calls.{Rose}
-use Rattle.cck_include.specs.Known.{AreKnown}
-use Rattle.cck_include.specs.Matching.{MayMiss}
+use Rattle.cck_entry.specs.Known.{AreKnown}
+use Rattle.cck_entry.specs.Matching.{MayMiss}
 use Rattle.cck_entry.specs.Lent.{includes_begun, result_lent}
 use Rattle.cck_entry.specs.Find.{IsLookup, found_in}
 use Rattle.cck_entry.specs.Statuses.{matches_with}

@@ -6,7 +6,7 @@ use Rattle.cck_entry.specs.Statuses.{matches_with}
 use Rattle.cck_entry.specs.Lent.{result_lent}
 use Rattle.cck_entry.specs.declared.result_ref.ResultRef.{ResultRef}
 use Rattle.cck_files.specs.Calls.{Keeps, Rose}
-use Rattle.cck_include.specs.Known.{AreKnown}
+use Rattle.cck_entry.specs.Known.{AreKnown}
 use Rattle.cck_include.specs.JudgeContext.{setting_of}
 use Rattle.cck_entry.proofs.lookup.find_lent.Given as goal
 

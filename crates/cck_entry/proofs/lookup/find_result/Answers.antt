@@ -5,8 +5,8 @@ use Rattle.std.specs.Iterator.Adapters.{rev_source}
 use Rattle.cck_files.proofs.CallsLemmas.{keeps_all, keeps_itself}
 use Rattle.cck_files.specs.Calls.{Rose}
 use Rattle.cck_include.specs.Include.{includes_in}
-use Rattle.cck_include.specs.Known.{AreKnown}
-use Rattle.cck_include.specs.Matching.{MayMiss, matches}
+use Rattle.cck_entry.specs.Known.{AreKnown}
+use Rattle.cck_entry.specs.Matching.{MayMiss, matches}
 use Rattle.cck_entry.proofs.LookupLemmas.{misses, hits}
 use Rattle.cck_entry.specs.Find.{found_in}
 use Rattle.cck_entry.specs.Results.{result_in}

@@ -6,8 +6,8 @@ use Rattle.std.specs.Iterator.Adapters.{rev_source}
 use Rattle.cck_entry.specs.Find.{found_in}
 use Rattle.cck_entry.specs.Results.{result_in}
 use Rattle.cck_files.specs.Calls.{Keeps, Rose}
-use Rattle.cck_include.specs.Known.{AreKnown}
-use Rattle.cck_include.specs.Matching.{matches}
+use Rattle.cck_entry.specs.Known.{AreKnown}
+use Rattle.cck_entry.specs.Matching.{matches}
 use Rattle.cck_include.specs.declared.include.IncludeEntry.{IncludeEntry}
 use Rattle.cck_include.specs.JudgeContext.{setting_of}
 use Rattle.cck_entry.proofs.lookup.find_result.Given as goal

@@ -1,11 +1,11 @@
 use Rattle.std.proofs.Common.{◌≡◌, true, subst}
 use Rattle.cck_files.proofs.CallsLemmas.{keeps_all}
 use Rattle.cck_files.specs.Calls.{Rose}
-use Rattle.cck_include.proofs.MatchLemmas.{all_more}
+use Rattle.cck_entry.proofs.MatchLemmas.{all_more}
 use Rattle.cck_include.specs.Include.{include_lent}
 use Rattle.cck_include.specs.JudgeContext.{setting_of}
-use Rattle.cck_include.specs.Known.{AreKnown}
-use Rattle.cck_include.specs.Matching.{MayMiss}
+use Rattle.cck_entry.specs.Known.{AreKnown}
+use Rattle.cck_entry.specs.Matching.{MayMiss}
 use Rattle.cck_entry.specs.Lent.{result_lent}
 use Rattle.cck_entry.specs.Statuses.{matches_with}
 use Rattle.cck_entry.proofs.lookup.lent_matches.Goals as goal

@@ -2,7 +2,7 @@ use Rattle.std.proofs.Common.{◌≡◌}
 use Rattle.std.specs.List.{list_all}
 use Rattle.cck_files.specs.Calls.{Keeps}
 use Rattle.cck_include.specs.JudgeContext.{setting_of}
-use Rattle.cck_include.specs.Known.{AreKnown}
+use Rattle.cck_entry.specs.Known.{AreKnown}
 use Rattle.cck_entry.specs.Lent.{result_lent}
 use Rattle.cck_entry.specs.Statuses.{matches_with}
 use Rattle.cck_entry.proofs.lookup.lent_matches.Given as goal

@@ -3,7 +3,7 @@ use Rattle.std.proofs.lemmas.Bool.{or_left}
 use Rattle.cck_files.specs.Calls.{Rose}
 use Rattle.cck_include.specs.Include.{include_lent}
 use Rattle.cck_include.specs.JudgeContext.{setting_of}
-use Rattle.cck_include.specs.Matching.{MayMiss, matches}
+use Rattle.cck_entry.specs.Matching.{MayMiss, matches}
 use Rattle.cck_entry.specs.Statuses.{matches_with}
 use Rattle.cck_entry.proofs.statuses.include_matches_with.Goals as goal
 

@@ -2,7 +2,7 @@ use Rattle.std.proofs.Common.{◌∙◌, Ok, Err, Some, None, ap, option_map, re
 use Rattle.std.proofs.lemmas.Result.{err_from_is_err_and}
 use Rattle.std.specs.String.{string_bytes}
 use Rattle.cck_files.specs.Calls.{Rose}
-use Rattle.cck_include.specs.Matching.{matches}
+use Rattle.cck_entry.specs.Matching.{matches}
 use Rattle.cck_util.specs.declared.store.StoreError.TheVariants as store
 use Rattle.cck_files.proofs.CallsLemmas.{keeps_itself}
 use Rattle.cck_hasher.proofs.Asked.{given, given_error}

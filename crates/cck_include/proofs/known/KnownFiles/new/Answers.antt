@@ -1,5 +1,0 @@
-use Rattle.cck_include.proofs.KnownLemmas.{none_known}
-use Rattle.cck_include.proofs.known.KnownFiles.new.Goals as goal
-
-pub returns : goal.returns
-returns c = λ s files. none_known s files _ _ c.new.ensures.items
