@@ -1,6 +1,6 @@
 //! The commands, their options and their words.
 use cck_digest::VERSION;
-use clap::{Arg, ArgAction, Command, value_parser};
+use clap::{Arg, ArgAction, Command};
 use std::alloc::{AllocError, Global};
 
 // A command that is put together, or the error if memory was lacking on the way. As each step takes and
@@ -12,18 +12,10 @@ type Building<'a> = Result<Command<'a>, AllocError>;
 enum Need<'a> {
     // Always.
     Always,
-    // Always, and its value is a number.
-    AlwaysNumber,
     // It may be left out.
     Never,
-    // It may be left out, and comes only with the option of this name.
-    With(&'a str),
-    // Exactly where the option of this name is left out.
-    Without(&'a str),
     // It may be left out, and its value is one of these.
     OneOf(&'a [&'a str]),
-    // It may be left out, and its value is a number.
-    Number,
 }
 
 // When an option is given, its name, that of its value, and its help.
@@ -88,7 +80,7 @@ static KIND_AND_NAME: [WordWords<'static>; 2] = [
 
 static CALL: [OptionWords<'static>; 5] = [
     (
-        Need::Without("driver"),
+        Need::Never,
         "compiler",
         "PATHS",
         "The programs that the compiler runs, with colons between them",
@@ -122,14 +114,14 @@ const SERVER: OptionWords<'static> = (
 );
 
 const ADDRESS: OptionWords<'static> = (
-    Need::With("server"),
+    Need::Never,
     "address",
     "FILE",
     "The address of the server; without it lines on standard output ask for what the server has, and its replies are read on standard input",
 );
 
 const VERIFY_KEY: OptionWords<'static> = (
-    Need::With("server"),
+    Need::Never,
     "verify-key",
     "FILE",
     "The key without whose signature no value of the server is used",
@@ -137,7 +129,12 @@ const VERIFY_KEY: OptionWords<'static> = (
 
 static UNPACK: [OptionWords<'static>; 7] = [
     (Need::Always, "name", "NAME", "The name of the object"),
-    (Need::Without("server"), "packed", "FILE", "The object file"),
+    (
+        Need::Never,
+        "packed",
+        "FILE",
+        "The object file; in place of --server",
+    ),
     SERVER,
     ADDRESS,
     VERIFY_KEY,
@@ -160,7 +157,7 @@ static SEAL: [OptionWords<'static>; 2] = [
         "The key with which the value is signed",
     ),
     (
-        Need::Number,
+        Need::Never,
         "expanded",
         "BYTES",
         "The number of bytes of the file of which standard input is a frame of zstd",
@@ -187,31 +184,31 @@ static RECORD: [OptionWords<'static>; 10] = [
         "What `-E -v` printed on standard error",
     ),
     (
-        Need::With("messages"),
+        Need::Never,
         "compiled",
         "FILE",
         "The object that the compiler wrote; without it the entry alone is recorded",
     ),
     (
-        Need::With("compiled"),
+        Need::Never,
         "messages",
         "FILE",
         "What the compilation printed on standard error",
     ),
     (
-        Need::With("compiled"),
+        Need::Never,
         "dependencies",
         "FILE",
         "The dependency file that the compilation wrote",
     ),
     (
-        Need::With("compiled"),
+        Need::Never,
         "assembled",
         "FILE",
         "The dependency file that the assembler wrote",
     ),
     (
-        Need::With("compiled"),
+        Need::Never,
         "opened",
         "FILE",
         "What the compiler wrote for SUNPRO_DEPENDENCIES, where the compilation wrote no dependency file",
@@ -231,7 +228,7 @@ static RECORD: [OptionWords<'static>; 10] = [
 ];
 
 static PRUNE: [OptionWords<'static>; 1] = [(
-    Need::AlwaysNumber,
+    Need::Always,
     "max-size",
     "BYTES",
     "The most bytes that the files may have together",
@@ -343,26 +340,17 @@ impl Words {
     }
 }
 
-// An option that is given exactly where the one of this name is left out.
-fn without<'a>(option: Arg<'a>, other: &'a str) -> Result<Arg<'a>, AllocError> {
-    option.required_unless_present(other)?.conflicts_with(other)
-}
-
 // An option that is given when `need` says.
-fn needed<'a>(option: Arg<'a>, need: Need<'a>) -> Result<Arg<'a>, AllocError> {
+fn needed<'a>(option: Arg<'a>, need: Need<'a>) -> Arg<'a> {
     match need {
-        Need::Always => Ok(option.required(true)),
-        Need::AlwaysNumber => Ok(option.value_parser(value_parser!(u64)).required(true)),
-        Need::Never => Ok(option),
-        Need::With(other) => option.requires_arg(other),
-        Need::Without(other) => without(option, other),
-        Need::OneOf(names) => Ok(option.value_parser(names)),
-        Need::Number => Ok(option.value_parser(value_parser!(u64))),
+        Need::Always => option.required(true),
+        Need::Never => option,
+        Need::OneOf(names) => option.value_parser(names),
     }
 }
 
 // An option that takes a value.
-fn option_of<'a>(alloc: Global, words: OptionWords<'a>) -> Result<Arg<'a>, AllocError> {
+fn option_of<'a>(alloc: Global, words: OptionWords<'a>) -> Arg<'a> {
     let (need, name, value, help) = words;
     let option = Arg::new(alloc, name)
         .long(name)
@@ -373,17 +361,9 @@ fn option_of<'a>(alloc: Global, words: OptionWords<'a>) -> Result<Arg<'a>, Alloc
 }
 
 // A command with this argument.
-fn with_made<'a>(command: Building<'a>, argument: Arg<'a>) -> Building<'a> {
+fn with_argument<'a>(command: Building<'a>, argument: Arg<'a>) -> Building<'a> {
     match command {
         Ok(command) => command.arg(argument),
-        Err(error) => Err(error),
-    }
-}
-
-// A command with this argument, if there was memory for it.
-fn with_argument<'a>(command: Building<'a>, argument: Result<Arg<'a>, AllocError>) -> Building<'a> {
-    match argument {
-        Ok(argument) => with_made(command, argument),
         Err(error) => Err(error),
     }
 }
@@ -415,7 +395,7 @@ fn with_words<'a>(alloc: Global, command: Building<'a>, words: &[WordWords<'a>])
     let mut command = command;
     for (name, help, names) in words {
         let word = Arg::new(alloc, *name).required(true).help(*help);
-        command = with_argument(command, Ok(one_of(word, names)));
+        command = with_argument(command, one_of(word, names));
     }
     command
 }
@@ -432,7 +412,7 @@ fn arguments<'a>(alloc: Global) -> Arg<'a> {
 // A command with the words of a compiler's call after its own.
 fn with_call<'a>(alloc: Global, command: Building<'a>) -> Building<'a> {
     let command = with_options(alloc, command, &CALL);
-    with_argument(command, Ok(arguments(alloc)))
+    with_argument(command, arguments(alloc))
 }
 
 // The command of these words.

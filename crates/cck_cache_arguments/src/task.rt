@@ -16,6 +16,16 @@ use std::alloc::{AllocError, Global};
 const WRONG_TIME: &str =
     "the value of --since is not a number of seconds, a point and a number of nanoseconds";
 
+// What is wrong with a number of bytes.
+const WRONG_NUMBER: &str =
+    "the value of --max-size and of --expanded is a number of bytes, below 2 to the power of 64";
+
+// What is wrong where an option of a server comes alone.
+const NO_SERVER: &str = "--address and --verify-key come with --server";
+
+// What is wrong where two options are given of which each is in place of the other.
+const CONFLICT: &str = "--compiler comes without --driver, and --packed without --server";
+
 // What is wrong where a word of a command is missing.
 const MISSING: &str = "a word of the command is missing";
 
@@ -411,12 +421,42 @@ fn task_in<'a>(alloc: Global, matches: &ArgMatches<'a>) -> Result<Option<Task<'a
     }
 }
 
-// Whether there is a time in these matches that is none.
-fn has_wrong_time(matches: &ArgMatches<'_>) -> bool {
-    match matches.subcommand() {
-        Some((_, command)) => command.contains_id("since") && since_of(command).is_none(),
-        None => false,
+// Whether both of these options are given.
+fn has_both(command: &ArgMatches<'_>, option: &str, other: &str) -> bool {
+    command.contains_id(option) && command.contains_id(other)
+}
+
+// Whether a number of bytes is given that is none.
+fn has_wrong_number(command: &ArgMatches<'_>) -> bool {
+    command.contains_id("max-size") && max_size_of(command).is_none()
+        || expanded_of(command).is_none()
+}
+
+// Whether an option is given that comes with a server, and no server.
+fn lacks_server(command: &ArgMatches<'_>) -> bool {
+    !command.contains_id("server")
+        && (command.contains_id("address") || command.contains_id("verify-key"))
+}
+
+// What is wrong with the options of a command, each of which may be given as it is.
+fn wrong_in(command: &ArgMatches<'_>) -> Option<(ErrorKind, &'static str)> {
+    if command.contains_id("since") && since_of(command).is_none() {
+        Some((ErrorKind::ValueValidation, WRONG_TIME))
+    } else if has_wrong_number(command) {
+        Some((ErrorKind::ValueValidation, WRONG_NUMBER))
+    } else if has_both(command, "compiler", "driver") || has_both(command, "packed", "server") {
+        Some((ErrorKind::ArgumentConflict, CONFLICT))
+    } else if lacks_server(command) {
+        Some((ErrorKind::MissingRequiredArgument, NO_SERVER))
+    } else {
+        None
     }
+}
+
+// What is wrong with the options of the command in these matches.
+fn wrong_of(matches: &ArgMatches<'_>) -> Option<(ErrorKind, &'static str)> {
+    let (_, command) = matches.subcommand()?;
+    wrong_in(command)
 }
 
 // What is found of the words of a command.
@@ -430,8 +470,8 @@ enum Outcome<'a> {
 
 // What is found of the words in these matches.
 fn judged<'a>(alloc: Global, matches: &ArgMatches<'a>) -> Result<Outcome<'a>, AllocError> {
-    if has_wrong_time(matches) {
-        return Ok(Outcome::Wrong(ErrorKind::ValueValidation, WRONG_TIME));
+    if let Some((kind, text)) = wrong_of(matches) {
+        return Ok(Outcome::Wrong(kind, text));
     }
     Ok(match task_in(alloc, matches)? {
         Some(task) => Outcome::Task(task),

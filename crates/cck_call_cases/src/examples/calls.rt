@@ -2,8 +2,7 @@
 mod own_compiler;
 
 use crate::examples::calls::own_compiler::OwnCompiler;
-use crate::examples::files::files_of;
-use c_cache_keys::cck_util::{Language, MapFiles, Sha256State, Timestamp};
+use c_cache_keys::cck_util::{FileKind, Language, MapFiles, Node, Sha256State, Timestamp};
 use c_cache_keys::{
     ArtifactDescriptor, CCompiler, CCompilerHasher, CacheControl, CompilerArguments, KeyError,
     MapStore, ParsedArguments,
@@ -66,9 +65,30 @@ fn key_of(
     Ok(found.key)
 }
 
+// Puts a file of these contents, without times.
+fn put(
+    alloc: Global,
+    files: &mut MapFiles,
+    path: &[u8],
+    contents: &[u8],
+) -> Result<(), KeyError> {
+    let node = Node {
+        kind: FileKind::File,
+        contents: contents.to_vec(alloc)?,
+        modified: None,
+        changed: None,
+    };
+    match files.put(path, node) {
+        Ok(()) => Ok(()),
+        Err(_) => Err(KeyError::Memory),
+    }
+}
+
 /// The key of a compilation, from a command line on. The empty text if that is no compilation.
 pub(crate) fn key_by_own_compiler(alloc: Global) -> Result<String, KeyError> {
-    let mut files = files_of(alloc, &[(b"/cc", b"cc"), (b"/w/a.i", b"int x;")])?;
+    let mut files = MapFiles::new(alloc);
+    put(alloc, &mut files, b"/cc", b"cc")?;
+    put(alloc, &mut files, b"/w/a.i", b"int x;")?;
     match parsed(alloc, &mut files)? {
         CompilerArguments::Ok(hasher) => key_of(alloc, &mut files, &hasher),
         _ => Ok(String::new(alloc)),
