@@ -9,7 +9,7 @@ use Rattle.cck_cache_rules.specs.declared.base.Words.{Words}
 use Rattle.cck_cache.proofs.InputLemmas.{calm_kept, calm_stays, without_fault}
 use Rattle.cck_cache_paths.specs.Copies.{IsCopiesVerdict}
 use Rattle.cck_cache.specs.Input.{IsCalm, IsInput, NoFault}
-use Rattle.cck_cache.specs.Record.{AreFilesOf, AreGathered, HasPathTests, HasAskedTests, HasUnnamedTests, IsAdded, IsAsked, IsEntryOf, IsEntryVerdict, IsKept, IsLocalTime, IsOneDay, IsOutcome, IsOutcomeOver, IsRefusedOver, ObjectShowsBase, ReadsAlone, gathered_tests}
+use Rattle.cck_cache.specs.Record.{AreFilesOf, AreGathered, HasPathTests, HasAskedTests, HasUnnamedTests, IsAdded, IsAsked, IsEntryOf, IsEntryVerdict, IsJudgedByReading, IsKept, IsLocalTime, IsOneDay, IsOutcome, IsOutcomeOver, IsRefusedOver, ObjectShowsBase, gathered_tests}
 use Rattle.cck_cache.specs.Request.{IsRequest, request_words}
 use Rattle.cck_cache.specs.declared.environment.Environment.{Environment}
 use Rattle.cck_cache.specs.declared.record.Added.{Added}
@@ -62,10 +62,10 @@ calm_grown text cwd before after grew =
     calm_stays before after (grew list.0 list.1).calm
 
 -- what was gathered over files that a call kept
-pub gathered_over : (request : Request) (since : Moment) (text : Bytes) (files new : FileMap) (made asked others : List Test) → new ≡ files → AreFilesOf request text files → IsCopiesVerdict files request text false → HasPathTests request since text made → HasAskedTests request since text files asked
-    → HasUnnamedTests request since text files others → AreGathered request since text new made asked others
-gathered_over request since text files new made asked others same are no_copies path_tests tested unnamed =
-    subst (λ (m : FileMap). AreGathered request since text m made asked others) (sym same) (record { are_files = are; no_copies = no_copies; path_tests = path_tests; tested = tested; unnamed = unnamed })
+pub gathered_over : (request : Request) (since : Moment) (printed text : Bytes) (files new : FileMap) (made asked others : List Test) → new ≡ files → AreFilesOf request text files → IsCopiesVerdict files request text false → HasPathTests request since printed text made → HasAskedTests request since printed text files asked
+    → HasUnnamedTests request since printed text files others → AreGathered request since printed text new made asked others
+gathered_over request since printed text files new made asked others same are no_copies path_tests tested unnamed =
+    subst (λ (m : FileMap). AreGathered request since printed text m made asked others) (sym same) (record { are_files = are; no_copies = no_copies; path_tests = path_tests; tested = tested; unnamed = unnamed })
 
 -- a base directory is shown by an object file, so there is one
 pub some_shows : (bases : List Bytes) (o : Option ObjectFile) → ObjectShowsBase bases o → (object : ObjectFile) × ObjectShowsBase bases (Some object)
@@ -146,8 +146,8 @@ recorded_over asked text before mid after recording put calm first second is rec
     (without_fault (λ (a b : ℕ). IsRecording sha256 mid.files asked (Rose a b) text recording) mid after second (calm_kept before mid first calm) recorded))
 
 -- an outcome over the files that were gathered is the outcome
-pub outcome_all : (environment : Environment) (request : Request) (compilation : Compilation) (text : Bytes) (gathered : Gathered) (outcome : Outcome) → ReadsAlone request text compilation.made
-    → AreGathered request compilation.since text gathered.files.files (tests_of gathered.tests.items) (tests_of gathered.asked_tests.items) (tests_of gathered.unnamed_tests.items) → IsOutcomeOver environment request compilation text gathered outcome → IsOutcome environment request compilation text outcome
-outcome_all environment request compilation text gathered (Recorded name) alone are is = (alone, (gathered.files.files, tests_of gathered.tests.items, tests_of gathered.asked_tests.items, tests_of gathered.unnamed_tests.items, are, is.1))
-outcome_all environment request compilation text gathered (Refused refusal) alone are is =
-    inr (inr (gathered.is_doubtful, gathered.files.files, tests_of gathered.tests.items, tests_of gathered.asked_tests.items, tests_of gathered.unnamed_tests.items, are, is))
+pub outcome_all : (environment : Environment) (request : Request) (compilation : Compilation) (printed text : Bytes) (gathered : Gathered) (outcome : Outcome) → IsJudgedByReading request text compilation.made None
+    → AreGathered request compilation.since printed text gathered.files.files (tests_of gathered.tests.items) (tests_of gathered.asked_tests.items) (tests_of gathered.unnamed_tests.items) → IsOutcomeOver environment request compilation text gathered outcome → IsOutcome environment request compilation text outcome
+outcome_all environment request compilation printed text gathered (Recorded name) alone are is = (alone, (printed, gathered.files.files, tests_of gathered.tests.items, tests_of gathered.asked_tests.items, tests_of gathered.unnamed_tests.items, are, is.1))
+outcome_all environment request compilation printed text gathered (Refused refusal) alone are is =
+    inr (inr (printed, gathered.is_doubtful, gathered.files.files, tests_of gathered.tests.items, tests_of gathered.asked_tests.items, tests_of gathered.unnamed_tests.items, are, is))

@@ -1,5 +1,6 @@
 -- what a recording records
-use Rattle.std.specs.Prelude.{◌≡◌, ◌++◌, ◌⊎◌, ℤ, pos, ◌*ℤ◌, ◌+ℤ◌, List, Bool, true, false, Option, Some, None, String, string_bytes}
+use Rattle.std.specs.Prelude.{◌≡◌, ◌++◌, ◌⊎◌, ℤ, pos, ◌*ℤ◌, ◌+ℤ◌, List, Bool, true, false, Option, Some, None, String, string_bytes, vec_items}
+use Rattle.std.specs.Option.{option_map}
 use Rattle.std.specs.declared.alloc.Global.{Global}
 use Rattle.cck_cache_rules.specs.Shown.{ShowsBase}
 use Rattle.cck_cache_rules.specs.Text.{AreBases}
@@ -17,6 +18,7 @@ use Rattle.cck_cache.specs.declared.record.EntryVerdict.TheVariants.{Added as Ha
 use Rattle.cck_cache.specs.declared.record.InputVerdict.{InputVerdict}
 use Rattle.cck_cache.specs.declared.record.InputVerdict.TheVariants.{Key, Refused as KeyRefused}
 use Rattle.cck_cache.specs.declared.record.Gathered.{Gathered}
+use Rattle.cck_cache.specs.declared.record.ReadRules.{ReadRules}
 use Rattle.cck_cache.specs.declared.record.Outcome.{Outcome}
 use Rattle.cck_cache.specs.declared.record.Outcome.TheVariants.{Recorded, Refused}
 use Rattle.cck_cache.specs.declared.record.Seen.{Seen}
@@ -66,10 +68,9 @@ IsOneDay zone a b false =
 
 -- These tests of paths must hold, by what the compiler printed of its directories and by states of paths, where a file or a link that changed at this
 -- time or later is in doubt.
-pub record HasPathTests (request : Request) (since : Moment) (text : Bytes) (made : List Test) : Type 0 where
+pub record HasPathTests (request : Request) (since : Moment) (printed text : Bytes) (made : List Test) : Type 0 where
   pub states : PathStates
   pub since_is : states.since ≡ since
-  pub printed : Bytes
   pub tests_are : AreTestsOf states request.directory.now text (lists_of request.arguments.items) printed made
 
 -- files of a text: the input, and files at the paths of the names of the text, none of which replaced another
@@ -82,49 +83,44 @@ pub record AreFilesOf (request : Request) (text : Bytes) (files : FileMap) : Typ
   pub kept : IsPart input files
 
 -- these tests are of the paths at which the sources of the text look for headers, in the same way
-pub record HasAskedTests (request : Request) (since : Moment) (text : Bytes) (files : FileMap) (tests : List Test) : Type 0 where
+pub record HasAskedTests (request : Request) (since : Moment) (printed text : Bytes) (files : FileMap) (tests : List Test) : Type 0 where
   pub states : PathStates
   pub since_is : states.since ≡ since
-  pub printed : Bytes
   pub tests_are : AreAskedTests states files request.directory.now text printed tests
 
 -- these tests are of the paths at which headers of the text and of the arguments are looked for, and which the text does not name, in the same way
-pub record HasUnnamedTests (request : Request) (since : Moment) (text : Bytes) (files : FileMap) (tests : List Test) : Type 0 where
+pub record HasUnnamedTests (request : Request) (since : Moment) (printed text : Bytes) (files : FileMap) (tests : List Test) : Type 0 where
   pub states : PathStates
   pub since_is : states.since ≡ since
-  pub printed : Bytes
   pub tests_are : AreUnnamedTests states files request.directory.now text (lists_of request.arguments.items) printed tests
 
 -- Files that were gathered for a text, of which no two are copies. No path at which a header would have been found earlier, or at which a source looks for one, is in doubt, nor is
 -- one at which a header of the text is looked for and which the text does not name. The tests of an entry are the first, the second and the others.
-pub record AreGathered (request : Request) (since : Moment) (text : Bytes) (files : FileMap) (made asked others : List Test) : Type 0 where
+pub record AreGathered (request : Request) (since : Moment) (printed text : Bytes) (files : FileMap) (made asked others : List Test) : Type 0 where
   pub are_files : AreFilesOf request text files
   pub no_copies : IsCopiesVerdict files request text false
-  pub path_tests : HasPathTests request since text made
-  pub tested : HasAskedTests request since text files asked
-  pub unnamed : HasUnnamedTests request since text files others
+  pub path_tests : HasPathTests request since printed text made
+  pub tested : HasAskedTests request since printed text files asked
+  pub unnamed : HasUnnamedTests request since printed text files others
 
 -- a path keeps a compilation from being recorded
-pub record HasPathRefusal (request : Request) (since : Moment) (text : Bytes) (refusal : Refusal) : Type 0 where
+pub record HasPathRefusal (request : Request) (since : Moment) (printed text : Bytes) (refusal : Refusal) : Type 0 where
   pub states : PathStates
   pub since_is : states.since ≡ since
-  pub printed : Bytes
   pub refused : IsRefusedByPath states request.directory.now text (lists_of request.arguments.items) printed refusal
 
 -- what a source asks for keeps a compilation from being recorded, by files that were gathered for the text
-pub record HasSourceRefusal (request : Request) (since : Moment) (text : Bytes) (refusal : Refusal) : Type 0 where
+pub record HasSourceRefusal (request : Request) (since : Moment) (printed text : Bytes) (refusal : Refusal) : Type 0 where
   pub files : FileMap
   pub are_files : AreFilesOf request text files
   pub states : PathStates
   pub since_is : states.since ≡ since
-  pub printed : Bytes
   pub refused : IsRefusedBySource states files request.directory.now text printed refusal
 
 -- a path that the text does not name keeps a compilation from being recorded
-pub record HasUnnamedRefusal (request : Request) (since : Moment) (text : Bytes) (refusal : Refusal) : Type 0 where
+pub record HasUnnamedRefusal (request : Request) (since : Moment) (printed text : Bytes) (refusal : Refusal) : Type 0 where
   pub states : PathStates
   pub since_is : states.since ≡ since
-  pub printed : Bytes
   pub refused : IsRefusedByUnnamed states request.directory.now text (lists_of request.arguments.items) printed refusal
 
 -- two files of the text are copies, of files that were gathered for it
@@ -135,41 +131,35 @@ pub record HasCopiesRefusal (request : Request) (text : Bytes) (refusal : Refusa
   pub is_other : refusal ≡ OtherFile
 
 -- why a compilation is not recorded by its text: what a source asks for, two copies, or a path
-abbrev pub IsRefusedByText : Request → Moment → Bytes → Refusal → Type 0
-IsRefusedByText request since text refusal =
-    HasSourceRefusal request since text refusal
-    ⊎ (HasPathRefusal request since text refusal ⊎ (HasUnnamedRefusal request since text refusal ⊎ HasCopiesRefusal request text refusal))
+abbrev pub IsRefusedByText : Request → Moment → Bytes → Bytes → Refusal → Type 0
+IsRefusedByText request since printed text refusal =
+    HasSourceRefusal request since printed text refusal
+    ⊎ (HasPathRefusal request since printed text refusal ⊎ (HasUnnamedRefusal request since printed text refusal ⊎ HasCopiesRefusal request text refusal))
 
-abbrev pub IsSeen : Request → Moment → Bytes → Seen → Type 0
-IsSeen request since text (Files gathered) =
-    AreGathered request since text gathered.files.files (tests_of gathered.tests.items) (tests_of gathered.asked_tests.items) (tests_of gathered.unnamed_tests.items)
+-- what a recording looks at, by what the compiler printed of its directories
+abbrev pub IsSeen : Request → Moment → Bytes → Bytes → Seen → Type 0
+IsSeen request since printed text (Files gathered) =
+    AreGathered request since printed text gathered.files.files (tests_of gathered.tests.items) (tests_of gathered.asked_tests.items) (tests_of gathered.unnamed_tests.items)
     × IsCalm gathered.files
-IsSeen request since text (NotSeen refusal) = IsRefusedByText request since text refusal
+IsSeen request since printed text (NotSeen refusal) = IsRefusedByText request since printed text refusal
 
--- this does not hold of a dependency file, if there is one
-abbrev pub HoldsNot : (Bytes → Type 0) → Option Bytes → Type 0
-HoldsNot P None = Unit {0}
-HoldsNot P (Some rule) = ¬ P rule
+-- there is a dependency file, and this holds of it
+abbrev pub Holds : (Bytes → Type 0) → Option Bytes → Type 0
+Holds P None = ⊥
+Holds P (Some rule) = P rule
 
--- there is a dependency file of which this holds; or one of which it does not hold, or none
-abbrev pub IsTold : (Bytes → Type 0) → Bool → Type 0
-IsTold P true = (rule : Bytes) × P rule
-IsTold P false = (rule : Option Bytes) × HoldsNot P rule
+-- By these dependency files the assembler read nothing but what the compiler made of the input, and the compiler opened no file but those that the text
+-- names; or which of the two does not hold.
+abbrev pub IsJudgedByRules : Bytes → Bytes → ReadRules → Option Refusal → Type 0
+IsJudgedByRules input text rules None = IsAssembledRule input rules.assembled.items × Holds (IsOpenedRule text) (option_map vec_items rules.opened)
+IsJudgedByRules input text rules (Some refusal) =
+    ((refusal ≡ AssemblerInclude) × ¬ IsAssembledRule input rules.assembled.items)
+    ⊎ ((refusal ≡ OtherFile) × (IsAssembledRule input rules.assembled.items × ¬ Holds (IsOpenedRule text) (option_map vec_items rules.opened)))
 
--- By the dependency files that they wrote, the assembler read nothing but what the compiler made of the input, and the compiler opened no file but
--- those that the text names. An object that was not made by this compilation is there.
-abbrev pub ReadsAlone : Request → Bytes → Option Made → Type 0
-ReadsAlone request text None = Unit {0}
-ReadsAlone request text (Some made) = IsTold (IsAssembledRule request.input.now) true × IsTold (IsOpenedRule text) true
-
--- the assembler read something else, or the compiler opened another file, or it is not known
-abbrev pub IsRefusedByReading : Request → Bytes → Refusal → Type 0
-IsRefusedByReading request text refusal =
-    ((refusal ≡ AssemblerInclude) × IsTold (IsAssembledRule request.input.now) false) ⊎ ((refusal ≡ OtherFile) × IsTold (IsOpenedRule text) false)
-
+-- the same by dependency files that there are; an object that was not made by this compilation is there
 abbrev pub IsJudgedByReading : Request → Bytes → Option Made → Option Refusal → Type 0
-IsJudgedByReading request text made None = ReadsAlone request text made
-IsJudgedByReading request text made (Some refusal) = IsRefusedByReading request text refusal
+IsJudgedByReading request text None refusal = refusal ≡ None
+IsJudgedByReading request text (Some made) refusal = (rules : ReadRules) × IsJudgedByRules request.input.now text rules refusal
 
 -- why a compilation is not recorded by its input and its time, if it is not
 abbrev pub IsJudgedByInput : Environment → SnapshotRequest → FileMap → Bytes → Option Refusal → Type 0
@@ -276,10 +266,10 @@ IsOutcomeOver environment request compilation text gathered (Refused refusal) =
 -- The outcome of a recording. What is recorded is recorded over files that were gathered for the text.
 abbrev pub IsOutcome : Environment → Request → Compilation → Bytes → Outcome → Type 0
 IsOutcome environment request compilation text (Recorded name) =
-    ReadsAlone request text compilation.made
-    × ((files : FileMap) × (made asked others : List Test) × AreGathered request compilation.since text files made asked others × IsRecordedOver environment request compilation text files ((made ++ asked) ++ others) name)
+    IsJudgedByReading request text compilation.made None
+    × ((printed : Bytes) × (files : FileMap) × (made asked others : List Test) × AreGathered request compilation.since printed text files made asked others × IsRecordedOver environment request compilation text files ((made ++ asked) ++ others) name)
 IsOutcome environment request compilation text (Refused refusal) =
-    IsRefusedByReading request text refusal
-    ⊎ (IsRefusedByText request compilation.since text refusal
-    ⊎ ((doubtful : Bool) × (files : FileMap) × (made asked others : List Test) × AreGathered request compilation.since text files made asked others
+    IsJudgedByReading request text compilation.made (Some refusal)
+    ⊎ (((printed : Bytes) × IsRefusedByText request compilation.since printed text refusal)
+    ⊎ ((printed : Bytes) × (doubtful : Bool) × (files : FileMap) × (made asked others : List Test) × AreGathered request compilation.since printed text files made asked others
     × IsRefusedOver environment request compilation text doubtful files refusal))

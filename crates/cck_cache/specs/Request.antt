@@ -71,8 +71,8 @@ abbrev pub gcc_arguments : Bytes → Language → List Bytes → List Bytes → 
 gcc_arguments input language definitions arguments =
     record (only_input input language) { preprocessor_args = definitions; common_args = arguments }
 
--- The digest of these programs: of what the system says of each. Where a directory keeps digests, it is 64 digits that
--- the directory has, or that of their contents.
+-- The digest of these programs: of what the system says of each. Where a directory keeps digests, it is that of their
+-- contents, or 64 digits. No clause says that the directory has these.
 abbrev pub IsCompilerDigest : Option (Bor Bytes) → Bytes → Bytes → Type 0
 IsCompilerDigest None programs digest = IsStatusDigest sha256 programs digest
 IsCompilerDigest (Some _) programs digest = IsTrue (is_hex_digest digest) ⊎ IsContentsDigest sha256 programs digest

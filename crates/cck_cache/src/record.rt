@@ -2,11 +2,11 @@
 ghost use Rattle.std.specs.Prelude.{◌≡◌, ◌++◌, ◌↔◌, IfOk, IfSome, IsTrue, List, MatchOption, OnOk, Some};
 ghost use Rattle.std.specs.Option.{option_map};
 ghost use Rattle.cck_cache.specs.Input.{IsCalm};
-ghost use Rattle.cck_cache.specs.Record.{HasNoLocalTime, IsEntryOf, IsEntryVerdict, IsInputVerdict, IsJudgedByReading, IsKept, IsLocalTime, IsOneDay, IsOutcome, IsOutcomeOver, IsRefusedByBase, IsSeen, IsTold, ObjectShowsBase, gathered_tests, recorded_fields};
+ghost use Rattle.cck_cache.specs.Record.{HasNoLocalTime, Holds, IsEntryOf, IsEntryVerdict, IsInputVerdict, IsJudgedByReading, IsJudgedByRules, IsKept, IsLocalTime, IsOneDay, IsOutcome, IsOutcomeOver, IsRefusedByBase, IsSeen, ObjectShowsBase, gathered_tests, recorded_fields};
 ghost use Rattle.cck_cache_rules.specs.PathStatus.{Status, statuses_of};
 ghost use Rattle.cck_cache_rules.specs.Files.{entry_fields};
 ghost use Rattle.cck_cache_rules.specs.PathTest.{tests_of};
-ghost use Rattle.cck_cache_text.specs.ReadFiles.{IsAssembledRule, IsOpenedRule};
+ghost use Rattle.cck_cache_text.specs.ReadFiles.{IsOpenedRule};
 ghost use Rattle.cck_files.specs.Calls.{Keeps};
 ghost use Rattle.cck_files.specs.FileState.{IsQuiet, fault_count};
 ghost use Rattle.cck_path.specs.Bytes.{lists_of};
@@ -39,7 +39,7 @@ use cck_snapshot::{RecordedEntry, Recording, SnapshotRequest, preprocessor_key, 
 use cck_util::Sha256State;
 use jiff::civil::DateTime;
 use jiff::tz::TimeZone;
-use std::alloc::AllocError;
+use std::alloc::{AllocError, Global};
 use std::io::ErrorKind;
 use std::rt::Files;
 use std::{fs, io};
@@ -114,45 +114,35 @@ fn statuses_by<R: Files + AllocGlobal>(
     Ok(found)
 }
 
-// Reads the input and the files that a text names, and lists the tests of paths that must hold, by what the
-// compiler printed of its directories; or finds why the compilation is not recorded.
-fn see<R: Files + AllocGlobal>(
-    rt: &R,
-    request: &Request<'_>,
-    compilation: &Compilation<'_>,
-    text: &[u8],
-) -> Result<Seen>
-    ensures { IfOk result (IsSeen request.now compilation.now.since text.now) }
+// Reads the input and the files that a text names, and lists the tests of paths that must hold; or finds
+// why the compilation is not recorded.
+fn see<R: Files + AllocGlobal>(rt: &R, preprocessed: &Preprocessed<'_>) -> Result<Seen>
+    ensures { IfOk result (IsSeen preprocessed.now.request.now preprocessed.now.since
+        preprocessed.now.printed.now preprocessed.now.text.now) }
 {
+    let (request, text) = (preprocessed.request, preprocessed.text);
     let mut files = input_snapshot(rt, request)?;
-    let mut states = PathStates::new(rt, compilation.since);
-    let printed = fs::read(rt, compilation.search)?;
-    let preprocessed = Preprocessed {
-        request,
-        since: compilation.since,
-        text,
-        printed: &printed,
-    };
-    let tests = match absence_of(rt, &mut states, &preprocessed)? {
+    let mut states = PathStates::new(rt, preprocessed.since);
+    let tests = match absence_of(rt, &mut states, preprocessed)? {
         Absence::Refused(refusal) => return Ok(Seen::Refused(refusal)),
         Absence::Tests(tests) => tests,
     };
     let cwd = request.directory.as_bytes();
     let is_doubtful = add_named_files(rt, &mut files, &mut states, cwd, text)?;
-    let mut asked = PathStates::new(rt, compilation.since);
-    let tested = tested_by(rt, &mut files, &mut asked, &preprocessed)?;
+    let mut asked = PathStates::new(rt, preprocessed.since);
+    let tested = tested_by(rt, &mut files, &mut asked, preprocessed)?;
     let asked_tests = match tested {
         Tested::Refused(cause) => return Ok(Seen::Refused(cause)),
         Tested::Tests(asked_tests) => asked_tests,
     };
-    if may_have_copies(rt.alloc(), &mut files, &preprocessed)? {
+    if may_have_copies(rt.alloc(), &mut files, preprocessed)? {
         return Ok(Seen::Refused(Refusal::OtherFile));
     }
-    let others = unnamed_by(rt, &mut files, &mut states, &preprocessed, &asked_tests)?;
+    let others = unnamed_by(rt, &mut files, &mut states, preprocessed, &asked_tests)?;
     match others {
         Unnamed::Refused(cause) => Ok(Seen::Refused(cause)),
         Unnamed::Tests(unnamed_tests) => {
-            let found = statuses_by(rt, &preprocessed)?;
+            let found = statuses_by(rt, preprocessed)?;
             Ok(Seen::Files(Gathered {
                 files,
                 statuses: found.statuses,
@@ -176,33 +166,60 @@ fn read_if_there<R: Files + AllocGlobal>(rt: &R, path: Option<&str>) -> io::Resu
     }
 }
 
-// Whether the compiler opened no file but those of a text, by the dependency file at this path. `false`
-// where no path is given.
-fn opens_text_alone<R: Files + AllocGlobal>(rt: &R, path: Option<&str>, text: &[u8]) -> Result<bool>
-    ensures { IfOk result (IsTold (IsOpenedRule text.now)) }
+// The dependency files by which it is judged what the assembler and the compiler read.
+struct ReadRules {
+    // That of the assembler. Nothing where there is none.
+    assembled: Vec<u8>,
+    // That of the compiler. `None` where no path of one is given, and nothing where none is there.
+    opened: Option<Vec<u8>>,
+}
+
+// Reads the dependency files of what a compiler made.
+fn read_rules<R: Files + AllocGlobal>(rt: &R, made: &Made<'_>) -> io::Result<ReadRules> {
+    let assembled = read_if_there(rt, made.assembled)?;
+    let written = if made.dependencies.is_some() {
+        made.dependencies
+    } else {
+        made.opened
+    };
+    let opened = match written {
+        Some(_) => Some(read_if_there(rt, written)?),
+        None => None,
+    };
+    Ok(ReadRules { assembled, opened })
+}
+
+// Whether the compiler opened no file but those of a text, by its dependency file. `false` without one.
+fn opens_text_alone(alloc: Global, text: &[u8], rule: Option<&[u8]>) -> Result<bool, AllocError>
+    ensures { IfOk result (λ alone. IsTrue alone
+        ↔ Holds (IsOpenedRule text.now) (option_map (λ r. r.now) rule.entry)) }
 {
-    if path.is_none() {
-        return Ok(false);
+    match rule {
+        Some(rule) => opens_named_alone(alloc, text, rule),
+        None => Ok(false),
     }
-    let rule = read_if_there(rt, path)?;
-    Ok(opens_named_alone(rt.alloc(), text, &rule)?)
 }
 
-// Whether the assembler read nothing but what the compiler made of the input, by the dependency file at
-// this path. `false` where there is none.
-fn assembles_input_alone<R: Files + AllocGlobal>(
-    rt: &R,
-    path: Option<&str>,
+// Why a compilation is not recorded by what the assembler and the compiler say that they read.
+fn refusal_by_rules(
+    alloc: Global,
     input: &str,
-) -> Result<bool>
-    ensures { IfOk result (IsTold (IsAssembledRule input.now)) }
+    text: &[u8],
+    rules: &ReadRules,
+) -> Result<Option<Refusal>, AllocError>
+    ensures { IfOk result (IsJudgedByRules input.now text.now rules.now) }
 {
-    let rule = read_if_there(rt, path)?;
-    Ok(assembles_alone(rt.alloc(), input.as_bytes(), &rule)?)
+    if !assembles_alone(alloc, input.as_bytes(), &rules.assembled)? {
+        return Ok(Some(Refusal::AssemblerInclude));
+    }
+    if !opens_text_alone(alloc, text, rules.opened.as_deref())? {
+        return Ok(Some(Refusal::OtherFile));
+    }
+    Ok(None)
 }
 
-// Why a compilation is not recorded by what the assembler and the compiler say that they read. An entry that
-// is recorded alone is of an object that is there.
+// The same by the dependency files that were written. An entry that is recorded alone is of an object that
+// is there.
 fn refusal_by_reading<R: Files + AllocGlobal>(
     rt: &R,
     request: &Request<'_>,
@@ -214,18 +231,8 @@ fn refusal_by_reading<R: Files + AllocGlobal>(
     let Some(made) = made else {
         return Ok(None);
     };
-    if !assembles_input_alone(rt, made.assembled, request.input)? {
-        return Ok(Some(Refusal::AssemblerInclude));
-    }
-    let written = if made.dependencies.is_some() {
-        made.dependencies
-    } else {
-        made.opened
-    };
-    if !opens_text_alone(rt, written, text)? {
-        return Ok(Some(Refusal::OtherFile));
-    }
-    Ok(None)
+    let rules = read_rules(rt, made)?;
+    Ok(refusal_by_rules(rt.alloc(), request.input, text, &rules)?)
 }
 
 // What is known of a compilation by its input and its time alone. The borrow checker takes a field that
@@ -573,7 +580,14 @@ pub fn record<R: Files + AllocGlobal>(
     if let Some(refusal) = refusal_by_reading(rt, request, compilation.made.as_ref(), text)? {
         return Ok(Outcome::Refused(refusal));
     }
-    match see(rt, request, compilation, text)? {
+    let printed = fs::read(rt, compilation.search)?;
+    let preprocessed = Preprocessed {
+        request,
+        since: compilation.since,
+        text,
+        printed: &printed,
+    };
+    match see(rt, &preprocessed)? {
         Seen::Refused(refusal) => Ok(Outcome::Refused(refusal)),
         Seen::Files(gathered) => {
             record_over(rt, environment, store, request, compilation, text, gathered)

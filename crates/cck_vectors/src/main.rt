@@ -1,9 +1,9 @@
 //! The program `cck_vectors`: makes the calls of vector files, and compares their results.
 //!
-//! The words after its name are vector files. The folder that a file is in says which library knows
-//! its calls; `docs/TESTING.md` has a table of them, and the grammar of the files. For each file the
-//! program prints each difference, and the number of results. For the word `examples` it prints the
-//! results of `examples` of `cck_call_cases`.
+//! The words after its name are vector files. The folder that a file is in says which crate, or which
+//! module of this one, knows its calls; `docs/TESTING.md` has a table of them, and the grammar of the
+//! files. For each file the program prints each difference, and the number of results. For the word
+//! `examples` it prints the results of `examples` of `cck_call_cases`.
 //!
 //! The status is 0 if all results are the expected ones, and 1 if one differs or a line can't be
 //! read. It is 2 if a file can't be read, memory is lacking or a call of the examples fails.

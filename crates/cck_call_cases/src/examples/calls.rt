@@ -66,12 +66,7 @@ fn key_of(
 }
 
 // Puts a file of these contents, without times.
-fn put(
-    alloc: Global,
-    files: &mut MapFiles,
-    path: &[u8],
-    contents: &[u8],
-) -> Result<(), KeyError> {
+fn put(alloc: Global, files: &mut MapFiles, path: &[u8], contents: &[u8]) -> Result<(), KeyError> {
     let node = Node {
         kind: FileKind::File,
         contents: contents.to_vec(alloc)?,

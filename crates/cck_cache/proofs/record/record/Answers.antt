@@ -1,7 +1,7 @@
-use Rattle.std.proofs.Common.{Option, subst}
+use Rattle.std.proofs.Common.{Option, None, subst}
 use Rattle.std.proofs.lemmas.Result.{IfOk-weaker}
 use Rattle.cck_cache.specs.Input.{IsCalm}
-use Rattle.cck_cache.specs.Record.{IsJudgedByReading, IsOutcome, IsOutcomeOver, ReadsAlone}
+use Rattle.cck_cache.specs.Record.{IsJudgedByReading, IsOutcome, IsOutcomeOver}
 use Rattle.cck_cache.specs.declared.record.Outcome.{Outcome}
 use Rattle.cck_cache_rules.specs.declared.refusal.Refusal.{Refusal}
 use Rattle.cck_cache_arguments.specs.declared.task.Made.{Made}
@@ -15,8 +15,9 @@ returns-in-Files g c =
     let compilation = c.args.compilation.now in
     let text = c.args.text.now in
     let gathered = c.in-Files.gathered in
+    let printed = c.deref.result.now in
     let seen = rw c.in-Files.is at c.in_ok-refusal-2.ensures in
     let judged = subst (λ (o : Option Made). IsJudgedByReading request text o c.in_ok-refusal.field-0) c.as_ref.ensures.value c.in_ok-refusal.ensures in
-    let alone : ReadsAlone request text compilation.made = subst (λ (r : Option Refusal). IsJudgedByReading request text compilation.made r) c.in_default.is judged in
+    let alone : IsJudgedByReading request text compilation.made None = subst (λ (r : Option Refusal). IsJudgedByReading request text compilation.made r) c.in_default.is judged in
     IfOk-weaker c.record_over.result (λ (outcome : Outcome). IsCalm gathered.files → IsOutcomeOver environment request compilation text gathered outcome) (IsOutcome environment request compilation text)
-    (λ outcome is. outcome_all environment request compilation text gathered outcome alone seen.0 (is seen.1)) c.record_over.ensures
+    (λ outcome is. outcome_all environment request compilation printed text gathered outcome alone seen.0 (is seen.1)) c.record_over.ensures
