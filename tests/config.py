@@ -40,8 +40,8 @@ SHOWN = [
     ("the environment", "CCK_TTL = 1\nCCK_TTL = 2\n", {"CCK_TTL": "3"}, ["(environment) CCK_TTL = 3"]),
     ("an empty variable", "CCK_BASEDIR = /b\n", {"CCK_BASEDIR": ""}, ["(environment) CCK_BASEDIR = "]),
     ("an empty value", "CCK_LOG =\n", {}, [f"({FILE}:1) CCK_LOG = "]),
-    ("a value is not evaluated", "CCK_STORE = $(touch evil)`touch evil`;touch evil\nCCK_DIR = ~/a b\\n\"$HOME\" # c = '\n", {},
-     [f"({FILE}:1) CCK_STORE = $(touch evil)`touch evil`;touch evil", f"({FILE}:2) CCK_DIR = ~/a b\\n\"$HOME\" # c = '"]),
+    ("a value is not evaluated", "CCK_LOG = $(touch evil)`touch evil`;touch evil\nCCK_BASEDIR = ~/a b\\n\"$HOME\" # c = '\n", {},
+     [f"({FILE}:1) CCK_LOG = $(touch evil)`touch evil`;touch evil", f"({FILE}:2) CCK_BASEDIR = ~/a b\\n\"$HOME\" # c = '"]),
     ("a place of files without a slash", "CCK_TTL = 1\n", {"XDG_CONFIG_HOME": "home/.config"}, [f"({FILE}:1) CCK_TTL = 1"]),
     ("another place of files", "x\n", {"XDG_CONFIG_HOME": "@/other"}, ["(@/other/cck/config:1) CCK_TTL = 9"]),
     ("a place of stores", None, {"XDG_CACHE_HOME": "@/cache"}, ["(default) CCK_STORE = @/cache/cck"]),
@@ -99,6 +99,10 @@ WRONG = [
     ("a password", "CCK_STORE redis://u:PW=%h\n", "1: no name before '='"),
     ("a password without an equals sign", "CCK_STORE redis://u:PW%h\n", "1: no '='"),
     ("export", "export CCK_TTL=1\n", "1: no name before '='"),
+    ("a limit that is no size", "CCK_MAXSIZE = 10GB\n", "1: CCK_MAXSIZE is not a size, as 20G or 500Mi"),
+    ("a store below a home directory", "CCK_STORE = ~/s\n", "1: CCK_STORE is neither an absolute path nor an address"),
+    ("a relative store with a colon", "CCK_STORE = a/b:c\n", "1: CCK_STORE is neither an absolute path nor an address"),
+    ("a relative directory", "CCK_DIR = s\n", "1: CCK_DIR is not an absolute path"),
 ]
 # What a file has before and after `--max-size`, and the size.
 SIZES = [
@@ -119,7 +123,7 @@ def size_cases():
         for words in (f"cckcc --max-size {size}", f"cckcc -M {size}", f"cckcc --max-size={size}"):
             yield Case(f"{name}, {words}", file, {}, words, 0, f"CCK_MAXSIZE = {size} in {FILE}\n", "", after)
     for size in NO_SIZES:
-        yield Case(f"no size, {size}", "CCK_MAXSIZE = 1\n", {}, f"cckcc --max-size={size}", 2, "", f"cckcc: no size: {size}\n")
+        yield Case(f"no size, {size}", "CCK_MAXSIZE = 1\n", {}, f"cckcc --max-size={size}", 2, "", f"cckcc: not a size: {size} (a number, and k, M, G, T, Ki, Mi, Gi, Ti or nothing after it, as 20G)\n")
     yield Case("a size and the environment", "", {"CCK_MAXSIZE": "1M"}, "cckcc -M 5G", 0, f"CCK_MAXSIZE = 5G in {FILE}\n",
                "cckcc: CCK_MAXSIZE of the environment counts more: 1M\n", "CCK_MAXSIZE = 5G\n")
     yield Case("a size and a wrong file", "x\n", {}, "cckcc -M 5G", 2, "", f"cckcc: {FILE}:1: no '='\n")

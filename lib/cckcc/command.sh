@@ -3,9 +3,23 @@
 # `cck_configuration` and `cck_origins`, which says what the configuration file set.
 
 print_usage() {
-    echo 'usage: cckcc COMPILER ARG..'
-    echo '       cckcc --show-stats [--json] | --zero-stats | --cleanup | --clear | --verify | --version | --help'
-    echo '       cckcc --show-config | --max-size SIZE | --inspect FILE|KEY'
+    cat <<END
+usage: cckcc COMPILER ARG..    runs a compiler by way of the cache
+       cckcc OPTION
+
+  -s, --show-stats [--json]    counts of calls, and the size of the store
+  -z, --zero-stats             resets the counts
+  -c, --cleanup                removes what was used longest ago, down to the limit
+  -C, --clear                  removes all entries and objects
+  -v, --verify                 removes damaged files
+  -i, --inspect FILE|KEY       what a file of the store says
+  -p, --show-config            the variables, and where each is from
+  -M, --max-size SIZE          sets the limit in the configuration file, as 20G
+  -V, --version
+  -h, --help
+
+The manual page cckcc has the variables.
+END
 }
 
 # Sets CCK_STORE to the address of the server as it may be shown: `***` is in the place of a password.
@@ -153,7 +167,7 @@ show_stats() {
     case $#:$2 in
     1:) call stats "$cck_store" || print_found; print_table; exit ;;
     2:--json) call stats "$cck_store" || print_found >&2 ;;
-    *) print_usage >&2; exit 2 ;;
+    *) reject_words "after $1 comes nothing or --json" ;;
     esac
     printf '%s\n' "$cck_found" | LC_ALL=C awk '
         $1 == "count" { counts = counts (counts == "" ? "" : ", ") "\"" $2 "\": " $3; next }
@@ -175,7 +189,6 @@ clean_up() {
 
 # Resets the counts, and notes when.
 zero_stats() {
-    [ $# -eq 1 ] || { print_usage >&2; exit 2; }
     rm -rf "$cck_store/counts" || exit 1
     if [ -f "$cck_store/VERSION" ]; then true > "$cck_store/zeroed" || exit 1; fi
     exit 0
@@ -193,7 +206,7 @@ clear_store() {
 # Prints what the word names: a file, or the files of a key or of the name of an object. The program takes a word with a slash
 # for a path.
 inspect() {
-    [ $# -eq 2 ] || { print_usage >&2; exit 2; }
+    [ $# -eq 2 ] || reject_words "$1 takes one file, key or name"
     case $2 in
     */*) ;;
     *) [ ! -f "$2" ] || set -- "$1" "./$2" ;;
@@ -202,25 +215,13 @@ inspect() {
     print_found
 }
 
-# Whether a word is a size that the program reads: a number, a suffix or none, and less than 10^18 bytes.
-is_size() {
-    cck_digits=${1%%[!0-9]*}
-    case ${1#"$cck_digits"} in
-    '') cck_most=18 ;;
-    k|Ki) cck_most=15 ;;
-    M|Mi) cck_most=12 ;;
-    G|Gi) cck_most=9 ;;
-    T|Ti) cck_most=6 ;;
-    *) return 1 ;;
-    esac
-    [ -n "$cck_digits" ] && [ ${#cck_digits} -le $cck_most ]
-}
-
 # Writes the size into each line of the configuration file for one, or after all lines. The new file is made beside its
 # place and renamed, and a link to the file stays one.
 set_max_size() {
+    find_script size.sh || exit 2
+    . "$cck_script"
     if ! is_size "$1"; then
-        echo "cckcc: no size: $1" >&2
+        echo "cckcc: not a size: $1 (a number, and k, M, G, T, Ki, Mi, Gi, Ti or nothing after it, as 20G)" >&2
         exit 2
     fi
     cck_file=$(readlink -m "$cck_configuration") cck_line='^[[:blank:]]*CCK_MAXSIZE[[:blank:]]*='
@@ -234,21 +235,51 @@ set_max_size() {
     *" CCK_MAXSIZE:"*|*:) ;;
     *) echo "cckcc: CCK_MAXSIZE of the environment counts more: $CCK_MAXSIZE" >&2 ;;
     esac
+    case $1 in
+    0|*[!0-9]*) ;;
+    *) echo "cckcc: the limit is $1 bytes; $1G would be gigabytes" >&2 ;;
+    esac
     echo "CCK_MAXSIZE = $1 in $cck_configuration"
 }
 
+# Ends with what is wrong with the words.
+reject_words() {
+    echo "cckcc: $1" >&2
+    print_usage >&2
+    exit 2
+}
+
+# Ends where words follow an option that stands alone: those of a compiler's call come after the compiler.
+stand_alone() {
+    [ $# -eq 1 ] || reject_words "$1 takes no words; a compiler comes before its arguments, as in cckcc gcc -c x.c"
+}
+
+# Ends where the program is not there.
+find_program() {
+    if command -v "$cck_program" > /dev/null; then return; fi
+    echo "cckcc: there is no program $cck_program (CCK_PROGRAM, or PATH)" >&2
+    exit 127
+}
+
+case ${1-} in
+-V|--version|-z|--zero-stats|-c|--cleanup|-C|--clear|-v|--verify|-p|--show-config|-h|--help) stand_alone "$@" ;;
+esac
+case ${1-} in
+-V|--version|-s|--show-stats|-c|--cleanup|-C|--clear|-v|--verify|-i|--inspect) find_program ;;
+esac
 case ${1-} in
 -V|--version) exec "$cck_program" --version ;;
 -s|--show-stats) show_stats "$@" ;;
--z|--zero-stats) zero_stats "$@" ;;
+-z|--zero-stats) zero_stats ;;
 -c|--cleanup) clean_up ;;
 -C|--clear) clear_store ;;
--v|--verify) [ $# -eq 1 ] || { print_usage >&2; exit 2; }; call verify "$cck_store"; print_found ;;
+-v|--verify) call verify "$cck_store"; print_found ;;
 -i|--inspect) inspect "$@" ;;
 -p|--show-config) show_config ;;
--M|--max-size) [ $# -eq 2 ] || { print_usage >&2; exit 2; }; set_max_size "$2" ;;
---max-size=*) set_max_size "${1#*=}" ;;
+-M|--max-size) [ $# -eq 2 ] || reject_words "$1 takes a size, as 20G"; set_max_size "$2" ;;
+--max-size=*) stand_alone "$@"; set_max_size "${1#*=}" ;;
 -h|--help) print_usage ;;
-*) print_usage >&2; exit 2 ;;
+'') reject_words 'there is no compiler' ;;
+*) reject_words "no such option: $1" ;;
 esac
 exit 0

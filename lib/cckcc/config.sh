@@ -45,6 +45,26 @@ divide_line() {
     ''|*[!A-Za-z0-9_]*) cck_fault="no name before '='"; return 1 ;;
     *) cck_fault="no such variable: $cck_name"; return 1 ;;
     esac
+    test_value
+}
+
+# Fails for a value that would count otherwise than it looks: a limit that is no size, and a relative path, which would
+# be another directory in each one from which the compiler is called.
+test_value() {
+    case $cck_name:$cck_value in
+    CCK_MAXSIZE:?*)
+        if ! find_script size.sh; then return; fi
+        . "$cck_script"
+        is_size "$cck_value" || { cck_fault="CCK_MAXSIZE is not a size, as 20G or 500Mi"; return 1; }
+        ;;
+    CCK_STORE:[!/]*)
+        case ${cck_value%%/*} in
+        *:*) ;;
+        *) cck_fault="CCK_STORE is neither an absolute path nor an address"; return 1 ;;
+        esac
+        ;;
+    CCK_DIR:[!/]*) cck_fault="CCK_DIR is not an absolute path"; return 1 ;;
+    esac
 }
 
 # The compiler gets no line, also if its caller exported variables of these names.

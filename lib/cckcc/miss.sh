@@ -108,6 +108,10 @@ fi
 if [ -n "$cck_reason" ]; then
     log "passed on ($cck_reason): $*"
     count "passed-$cck_reason"
+    if [ "$cck_reason" = no-compiler ] && [ ! -e "$cck_compiler" ]; then
+        echo "cckcc: there is no compiler $cck_compiler" >&2
+        exit 127
+    fi
     exec "$cck_compiler" "$@"
 fi
 
@@ -118,7 +122,10 @@ pass_on() {
     shift
     [ -z "$cck_color" ] || shift
     cck_found=${cck_found%%"$cck_newline"*}
-    log "passed on (${cck_found#passed }): $*"
+    case $cck_found in
+    passed\ compiler) log "passed on (compiler): $cck_compiler $*" ;;
+    *) log "passed on (${cck_found#passed }): $*" ;;
+    esac
     case $cck_found in
     none*) ;;
     passed*) count "passed-${cck_found#passed }" ;;

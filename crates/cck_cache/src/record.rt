@@ -167,6 +167,7 @@ fn read_if_there<R: Files + AllocGlobal>(rt: &R, path: Option<&str>) -> io::Resu
 }
 
 // The dependency files by which it is judged what the assembler and the compiler read.
+#[derive(Drop)]
 struct ReadRules {
     // That of the assembler. Nothing where there is none.
     assembled: Vec<u8>,

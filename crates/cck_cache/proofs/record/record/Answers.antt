@@ -1,4 +1,4 @@
-use Rattle.std.proofs.Common.{Option, None, subst}
+use Rattle.std.proofs.Common.{inl, Option, Some, None, subst}
 use Rattle.std.proofs.lemmas.Result.{IfOk-weaker}
 use Rattle.cck_cache.specs.Input.{IsCalm}
 use Rattle.cck_cache.specs.Record.{IsJudgedByReading, IsOutcome, IsOutcomeOver}
@@ -7,6 +7,10 @@ use Rattle.cck_cache_rules.specs.declared.refusal.Refusal.{Refusal}
 use Rattle.cck_cache_arguments.specs.declared.task.Made.{Made}
 use Rattle.cck_cache.proofs.RecordLemmas.{outcome_all}
 use Rattle.cck_cache.proofs.record.record.Goals as goal
+
+pub returns-in-Some : goal.returns-in-Some
+returns-in-Some g c =
+    inl (subst (λ (o : Option Made). IsJudgedByReading c.args.request.now c.args.text.now o (Some c.in-Some.refusal)) c.as_ref.ensures.value (rw c.in-Some.is at c.in_ok-refusal.ensures))
 
 pub returns-in-Files : goal.returns-in-Files
 returns-in-Files g c =
