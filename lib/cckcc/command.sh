@@ -245,7 +245,7 @@ set_max_size() {
 # Ends with what is wrong with the words.
 reject_words() {
     echo "cckcc: $1" >&2
-    print_usage >&2
+    echo 'cckcc --help lists the options' >&2
     exit 2
 }
 
