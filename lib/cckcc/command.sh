@@ -50,7 +50,7 @@ show_config() {
     done <<END
 CCK_STORE $cck_home
 CCK_MAXSIZE 5G
-CCK_PROGRAM cck_cache
+CCK_PROGRAM $cck_program
 CCK_LOG
 CCK_READ
 CCK_BASEDIR
