@@ -22,7 +22,7 @@ installed() { (cd "$1" && find . ! -type d -printf '%y %m %P\n' | sort -k 3); }
 wanted() {
     for name in cck cck_cache cck_explain cckcc; do echo "f 755 bin/$name"; done
     echo 'f 644 include/cck.h'
-    for name in client command config miss recheck server; do echo "f 644 lib/cckcc/$name.sh"; done
+    for name in client command config miss recheck server size; do echo "f 644 lib/cckcc/$name.sh"; done
     echo 'f 644 lib/cckcc/connect.pl'
     echo 'f 644 lib/libcck.a'
     echo 'f 644 lib/pkgconfig/cck.pc'
@@ -59,7 +59,7 @@ echo 'int v;' >x.c
 echo 'class C;' >y.cc
 sleep 0.1
 unset CCK_PROGRAM CCK_BASEDIR CCK_DISABLE CCK_RECHECK
-compiler=$(command -v gcc)
+compiler=$(command -v gcc) plain=$PATH
 PATH="$room/a b/libexec/cckcc:$room/a b/bin:$PATH" CCK_STORE=$room/store CCK_LOG=$room/log
 XDG_CONFIG_HOME=$room/configuration
 export PATH CCK_STORE CCK_LOG XDG_CONFIG_HOME
@@ -68,6 +68,10 @@ gcc -c x.c
 check 'a hit by the link' "$(sed -n 's/^cckcc: \([a-z]*\).*/\1/p' "$room/log" | tr '\n' ' ')" 'look why recorded hit '
 (export CCK_STORE="$room/plusplus" CCK_LOG="$room/plusplus.log"; g++ -c y.cc; c++ -c y.cc)
 check 'calls by the links for C++' "$(sed -n 's/^cckcc: recorded .* //p' "$room/plusplus.log" | tr '\n' ' ')" 'y.cc y.cc '
+for first in "$room/a b/libexec/cckcc" "$room/package/opt/cck/libexec/cckcc"; do
+    (export PATH="$first:$plain" CCK_STORE="$room/beside" CCK_LOG="$room/beside.log"; gcc -c x.c)
+done
+check 'the program beside the wrapper' "$(sed -n 's/^cckcc: \([a-z]*\).*/\1/p' "$room/beside.log" | tr '\n' ' ')" 'look why recorded hit '
 check 'the compiler by the link' "$(gcc -dumpversion)" "$("$compiler" -dumpversion)"
 check 'the statistics' "$(cckcc --show-stats | sed 's/  */ /g; /^since/d; /^size/s/.* of/size of/')" "store $CCK_STORE
 hits 1 of 2 (50.0 %)
@@ -90,7 +94,7 @@ passed on 0'
 check 'since when' "$(cckcc -s | grep -c "^since  *$(date -r "$CCK_STORE/zeroed" '+%Y-%m-%d %H:%M')$")" 1
 check 'a store within its limit' "$(cckcc --cleanup | sed 's/,.*//')" 'removed 0 files'
 check 'a store without a limit' "$(CCK_MAXSIZE=0 cckcc -c | sed 's/,.*//')" 'removed 0 files'
-cckcc --max-size 100 >/dev/null
+cckcc --max-size 100 >/dev/null 2>&1
 check 'a store beyond its limit' "$(cckcc --cleanup)" 'removed 2 files, 0 bytes left'
 rm -r "$room/configuration"
 gcc -c x.c
@@ -104,6 +108,12 @@ check 'a hit with a configuration file' "$(CCK_STORE=$room/other\ store cckcc -s
 rm -r "$room/configuration"
 cckcc --unknown 2>/dev/null
 check 'an unknown option' $? 2
+cckcc -C -z 2>/dev/null
+check 'an option after one that stands alone' $? 2
+cckcc -c x.c 2>/dev/null
+check 'arguments without a compiler' $? 2
+cckcc no-such-compiler -c x.c 2>/dev/null
+check 'no such compiler' $? 127
 for option in --version --show-stats --cleanup --clear; do
     CCK_PROGRAM=/nowhere cckcc $option 2>/dev/null
     check "no program, $option" $? 127
