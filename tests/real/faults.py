@@ -253,7 +253,7 @@ def swapped():
     said = record("i.c", missed)
     found, got = look("i.c")
     print(f"input written before the recording: {said}, then {found[0]}")
-    if said != "refused-input-changed" or not is_right("i.c", found, got):
+    if not said.startswith("refused") or not is_right("i.c", found, got):
         faults.append("input written before the recording")
 
 
