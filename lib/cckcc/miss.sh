@@ -222,7 +222,8 @@ add_loaded() {
 
 # Whether the compiler reads a file of specs, in the directory of its version or in the one above it.
 reads_specs() {
-    case $("$cck_compiler" -print-file-name=specs 2>/dev/null) in
+    cck_next=$("$cck_compiler" -print-file-name=specs 2>/dev/null) || return 0
+    case $cck_next in
     /*) return 0 ;;
     esac
     [ -e "${cck_proper%/*}/specs" ] || [ -e "${cck_proper%/*}/../specs" ]
@@ -320,7 +321,7 @@ write_list() {
                 printf '%s%s\n%s\n%s\n' "$cck_context" "$cck_driver" "$cck_tested" "$cck_programs"
                 list_statuses
             } > "$cck_list.new$$" &&
-            touch -r "$cck_tried/asked" "$cck_list.new$$" && mv "$cck_list.new$$" "$cck_list"
+            touch -r "$cck_tried/asked" "$cck_list.new$$" && mv "$cck_list.new$$" "$cck_list" || rm -f "$cck_list.new$$"
         [ -e "$cck_store/empty.h" ] || true > "$cck_store/empty.h"
     ) 2>/dev/null
 }
@@ -385,7 +386,8 @@ find_place() { cck_place=$cck_store/$1/${2%"${2#??}"}; }
 keep() {
     [ -n "$cck_keeps" ] || return 0
     find_place "$1" "$2"
-    (share; mkdir -p "$cck_place" && cp "$3" "$cck_place/$2.new$$" && mv "$cck_place/$2.new$$" "$cck_place/$2") 2>/dev/null
+    (share; mkdir -p "$cck_place" && { cp "$3" "$cck_place/$2.new$$" && mv "$cck_place/$2.new$$" "$cck_place/$2" ||
+        rm -f "$cck_place/$2.new$$"; }) 2>/dev/null
 }
 
 # Records what was made of the text. The words are options of `record`, and those of the request. The shell of this function
@@ -1070,6 +1072,12 @@ reads_preprocessed_alone() {
         END { exit others || !NR }' "$cck_scratch/assembled"
 }
 
+# Whether the compilation had room for its temporary files: no message names one, and there still is room.
+has_room() {
+    { printf x > "$cck_scratch/room"; } 2>/dev/null || return 1
+    [ ! -s "$cck_scratch/messages" ] || lacks "$cck_scratch/" "$cck_scratch/messages"
+}
+
 # Whether what the arguments include are regular files: a pipe can't be read by two.
 includes_files() {
     while [ $# -gt 0 ]; do
@@ -1099,8 +1107,10 @@ else
     write_text "$@" 2>/dev/null &
     cck_text=$!
 fi
-compile "$@" > "$cck_scratch/output" 2> "$cck_scratch/messages"
+{ compile "$@" > "$cck_scratch/output" 2> "$cck_scratch/messages"; } 2>/dev/null
 cck_status=$?
+# Where there was none the compiler runs again, as the call came: messages may be lost.
+if ! has_room; then wait; cck_found='no scratch'; pass_on "$@"; fi
 # The assembler writes standard output at its end.
 [ ! -s "$cck_scratch/messages" ] || cat "$cck_scratch/messages" >&2
 [ ! -s "$cck_scratch/output" ] || cat "$cck_scratch/output"
