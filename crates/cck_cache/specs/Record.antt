@@ -143,6 +143,10 @@ IsSeen request since printed text (Files gathered) =
     × IsCalm gathered.files
 IsSeen request since printed text (NotSeen refusal) = IsRefusedByText request since printed text refusal
 
+-- the same by what it may have printed
+abbrev pub IsSeenBySome : Request → Moment → Bytes → Seen → Type 0
+IsSeenBySome request since text seen = (printed : Bytes) × IsSeen request since printed text seen
+
 -- there is a dependency file, and this holds of it
 abbrev pub Holds : (Bytes → Type 0) → Option Bytes → Type 0
 Holds P None = ⊥

@@ -2,7 +2,7 @@
 ghost use Rattle.std.specs.Prelude.{◌≡◌, ◌++◌, ◌↔◌, IfOk, IfSome, IsTrue, List, MatchOption, OnOk, Some};
 ghost use Rattle.std.specs.Option.{option_map};
 ghost use Rattle.cck_cache.specs.Input.{IsCalm};
-ghost use Rattle.cck_cache.specs.Record.{HasNoLocalTime, Holds, IsEntryOf, IsEntryVerdict, IsInputVerdict, IsJudgedByReading, IsJudgedByRules, IsKept, IsLocalTime, IsOneDay, IsOutcome, IsOutcomeOver, IsRefusedByBase, IsSeen, ObjectShowsBase, gathered_tests, recorded_fields};
+ghost use Rattle.cck_cache.specs.Record.{HasNoLocalTime, Holds, IsEntryOf, IsEntryVerdict, IsInputVerdict, IsJudgedByReading, IsJudgedByRules, IsKept, IsLocalTime, IsOneDay, IsOutcome, IsOutcomeOver, IsRefusedByBase, IsSeen, IsSeenBySome, ObjectShowsBase, gathered_tests, recorded_fields};
 ghost use Rattle.cck_cache_rules.specs.PathStatus.{Status, statuses_of};
 ghost use Rattle.cck_cache_rules.specs.Files.{entry_fields};
 ghost use Rattle.cck_cache_rules.specs.PathTest.{tests_of};
@@ -116,7 +116,7 @@ fn statuses_by<R: Files + AllocGlobal>(
 
 // Reads the input and the files that a text names, and lists the tests of paths that must hold; or finds
 // why the compilation is not recorded.
-fn see<R: Files + AllocGlobal>(rt: &R, preprocessed: &Preprocessed<'_>) -> Result<Seen>
+fn see_by<R: Files + AllocGlobal>(rt: &R, preprocessed: &Preprocessed<'_>) -> Result<Seen>
     ensures { IfOk result (IsSeen preprocessed.now.request.now preprocessed.now.since
         preprocessed.now.printed.now preprocessed.now.text.now) }
 {
@@ -153,6 +153,25 @@ fn see<R: Files + AllocGlobal>(rt: &R, preprocessed: &Preprocessed<'_>) -> Resul
             }))
         }
     }
+}
+
+// The same by what the compiler printed of its directories.
+fn see<R: Files + AllocGlobal>(
+    rt: &R,
+    request: &Request<'_>,
+    compilation: &Compilation<'_>,
+    text: &[u8],
+) -> Result<Seen>
+    ensures { IfOk result (IsSeenBySome request.now compilation.now.since text.now) }
+{
+    let printed = fs::read(rt, compilation.search)?;
+    let preprocessed = Preprocessed {
+        request,
+        since: compilation.since,
+        text,
+        printed: &printed,
+    };
+    see_by(rt, &preprocessed)
 }
 
 // The contents of the file at this path, and nothing where no path is given or no file is there.
@@ -581,14 +600,7 @@ pub fn record<R: Files + AllocGlobal>(
     if let Some(refusal) = refusal_by_reading(rt, request, compilation.made.as_ref(), text)? {
         return Ok(Outcome::Refused(refusal));
     }
-    let printed = fs::read(rt, compilation.search)?;
-    let preprocessed = Preprocessed {
-        request,
-        since: compilation.since,
-        text,
-        printed: &printed,
-    };
-    match see(rt, &preprocessed)? {
+    match see(rt, request, compilation, text)? {
         Seen::Refused(refusal) => Ok(Outcome::Refused(refusal)),
         Seen::Files(gathered) => {
             record_over(rt, environment, store, request, compilation, text, gathered)

@@ -19,9 +19,8 @@ returns-in-Files g c =
     let compilation = c.args.compilation.now in
     let text = c.args.text.now in
     let gathered = c.in-Files.gathered in
-    let printed = c.deref.result.now in
     let seen = rw c.in-Files.is at c.in_ok-refusal-2.ensures in
     let judged = subst (λ (o : Option Made). IsJudgedByReading request text o c.in_ok-refusal.field-0) c.as_ref.ensures.value c.in_ok-refusal.ensures in
     let alone : IsJudgedByReading request text compilation.made None = subst (λ (r : Option Refusal). IsJudgedByReading request text compilation.made r) c.in_default.is judged in
     IfOk-weaker c.record_over.result (λ (outcome : Outcome). IsCalm gathered.files → IsOutcomeOver environment request compilation text gathered outcome) (IsOutcome environment request compilation text)
-    (λ outcome is. outcome_all environment request compilation printed text gathered outcome alone seen.0 (is seen.1)) c.record_over.ensures
+    (λ outcome is. outcome_all environment request compilation seen.0 text gathered outcome alone seen.1.0 (is seen.1.1)) c.record_over.ensures
