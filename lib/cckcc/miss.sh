@@ -1074,7 +1074,11 @@ reads_preprocessed_alone() {
 
 # Whether the compilation had room for its temporary files: no message names one, and there still is room.
 has_room() {
-    { printf x > "$cck_scratch/room"; } 2>/dev/null || return 1
+    trap '' XFSZ
+    { printf x > "$cck_scratch/room"; } 2>/dev/null
+    cck_written=$?
+    trap - XFSZ
+    [ $cck_written -eq 0 ] || return 1
     [ ! -s "$cck_scratch/messages" ] || lacks "$cck_scratch/" "$cck_scratch/messages"
 }
 
