@@ -29,7 +29,7 @@ CMAKE_FLAGS = 'cmake -DCMAKE_C_FLAGS="$EARLY $FLAGS" -DCMAKE_CXX_FLAGS="$EARLY $
 NINJA = 'ninja -k 0 -j "$JOBS" -d keepdepfile'
 PROJECTS = {
     "giflib": Project(["*.[ch]"], ":", ":", 'make -k -C "$TREE" -j "$JOBS" CC=gcc CFLAGS="$EARLY -std=gnu99 -fPIC -Wall '
-                      '$FLAGS" libgif.so libgif.a libutil.so libutil.a gifbuild giftool'),
+                      '$FLAGS" libgif.so libgif.a libutil.so libutil.a giftool'),
     "libevent": Project(["*.[ch]", "include/*/*.h"], '"$TREE/configure" CC=gcc --disable-openssl --disable-static '
                         '--disable-samples --disable-libevent-regress', ":",
                         'make -k -j "$JOBS" DEFS="$EARLY -DHAVE_CONFIG_H" CFLAGS="$FLAGS -Wall"'),
@@ -146,7 +146,8 @@ class Day:
     def save(self, name, built):
         """Keeps both of what differs, for --keep."""
         for cache, one in built.items():
-            what = one.files[name].contents if name in one.files else repr(one.calls.get(name)).encode()
+            what = one.files[name][2] if one.files.get(name) else repr(one.calls.get(name))
+            what = what if isinstance(what, bytes) else str(what).encode()
             with open(f"{self.work.room}/differing-{self.builds}-{os.path.basename(name.split()[-1])}-{cache}", "wb") as file:
                 file.write(what)
 

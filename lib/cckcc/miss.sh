@@ -326,13 +326,19 @@ write_list() {
     ) 2>/dev/null
 }
 
-# Asks the compiler for the programs, and keeps them. Where a tool fails the compiler is unknown to this call alone.
-ask_compiler() {
+# Whether a compilation by this compiler and its assembler can be recorded, by what they say of themselves.
+knows_compiler() {
     cck_driver=$(readlink -f "$cck_located" 2>/dev/null)
     cck_assembler=$(command -v "$("$cck_compiler" -print-prog-name=as 2>/dev/null)")
-    cck_programs=-
     find_proper
-    if is_known && ! reads_specs && has_plain_libraries && says_what_it_read "$cck_assembler" "$cck_tried"; then
+    is_known && ! reads_specs && has_plain_libraries && says_what_it_read "$cck_assembler" "$cck_tried"
+}
+
+# Asks the compiler for the programs, and keeps them. Where a tool fails the compiler is unknown to this call alone. A program
+# that is killed says nothing, so what is not known is asked for once more.
+ask_compiler() {
+    cck_programs=-
+    if knows_compiler || knows_compiler; then
         cck_programs=$cck_located:$cck_proper:$cck_assembler${cck_plusplus:+:$cck_plusplus}
         add_loaded || { cck_programs=-; return; }
     fi

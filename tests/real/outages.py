@@ -114,6 +114,7 @@ def killed(number):
             said = subprocess.run([PROGRAM, "verify", STORE], capture_output=True, text=True, check=False).stdout
             check("verify", "removed 0" in said or not os.path.exists(STORE), said)
             print(f"killed, {calls} calls:", {name: counts[name] for name in [*targets, "noise"]}, left_behind(), flush=True)
+    check("the compiler is known after all kills", compare("a call after all kills", words_of("k.c")) != "passed")
 
 
 def fill(place, left=0):
