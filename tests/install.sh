@@ -118,6 +118,12 @@ for option in --version --show-stats --cleanup --clear; do
     CCK_PROGRAM=/nowhere cckcc $option 2>/dev/null
     check "no program, $option" $? 127
 done
+for words in 'prune st --max-size x' 'look st --compiler a --driver b --directory / -- -c x.c' \
+    'look st --driver gcc --directory / --address f -- -c x.c' 'look st --directory / -- -c x.c' \
+    'unpack st --name n --out o --packed p --server keep'; do
+    cck_cache $words >/dev/null 2>&1
+    check "wrong words, $words" $? 2
+done
 XDG_CONFIG_HOME=/dev/null/none cckcc --max-size 1G 2>/dev/null
 check 'no place for the configuration' $? 1
 PATH="$room/a b/libexec/cckcc" /bin/sh "$room/a b/libexec/cckcc/gcc" -c x.c 2>/dev/null

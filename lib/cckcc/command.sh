@@ -236,7 +236,7 @@ set_max_size() {
     *) echo "cckcc: CCK_MAXSIZE of the environment counts more: $CCK_MAXSIZE" >&2 ;;
     esac
     case $1 in
-    0|*[!0-9]*) ;;
+    0|*[!0-9]*|???????*) ;;
     *) echo "cckcc: the limit is $1 bytes; $1G would be gigabytes" >&2 ;;
     esac
     echo "CCK_MAXSIZE = $1 in $cck_configuration"

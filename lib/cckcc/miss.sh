@@ -220,7 +220,7 @@ add_loaded() {
     done
 }
 
-# Whether the compiler reads a file of specs, in the directory of its version or in the one above it.
+# Whether the compiler reads a file of specs, in the directory of its version or in the one above it; or it does not say.
 reads_specs() {
     cck_next=$("$cck_compiler" -print-file-name=specs 2>/dev/null) || return 0
     case $cck_next in
