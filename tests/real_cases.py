@@ -3,7 +3,8 @@
 printed, files with their modes) are the plain compiler's. Where ccache is installed its outputs are compared too,
 and reported. A case that is known to escape is reported too, and does not fail. Run by hand; needs gcc and the program
 (CCK_PROGRAM, by default the one that was proved and built here). With --compiler g++ all inputs are in C++, and the
-outputs alone are compared: the verdicts of the table are those of gcc. The last line is
+outputs alone are compared: the verdicts of the table are those of gcc. With --compiler clang the cases of
+tests/real/clang.txt come before them, whose verdicts are clang's. The last line is
 `real_cases: N passed, M failed`."""
 import argparse
 import concurrent.futures
@@ -18,15 +19,15 @@ sys.path.insert(0, os.path.join(os.path.dirname(os.path.abspath(__file__)), "rea
 from calls import PAUSE, TOP, WRAPPER, Room, difference, need_program, remove  # noqa: E402
 from projects import unescape  # noqa: E402
 
-TABLE = TOP + "/tests/real/cases.txt"
-COMPILER = "gcc"
+TABLE, CLANG_TABLE = TOP + "/tests/real/cases.txt", TOP + "/tests/real/clang.txt"
+COMPILER, CLANG = "gcc", "clang"
 VERDICTS = ("hit", "miss", "passed", "refused", "escapes")
 
 
-def cases():
-    """The cases of the table: name, files, call, change, call again, and the verdicts that are right."""
+def cases(table):
+    """The cases of a table: name, files, call, change, call again, and the verdicts that are right."""
     texts, found = {}, []
-    with open(TABLE, encoding="utf-8") as file:
+    with open(table, encoding="utf-8") as file:
         for line in file:
             line = line.rstrip("\n")
             if line.startswith("let "):
@@ -37,7 +38,7 @@ def cases():
                     line = line.replace(name, text)
                 fields = ["" if field == "-" else field.strip() for field in line.split(" | ")]
                 if len(fields) != 6 or fields[0] in [case[0] for case in found]:
-                    sys.exit(f"{TABLE}: no case, or a name that there is: {line}")
+                    sys.exit(f"{table}: no case, or a name that there is: {line}")
                 found.append(fields)
     return found
 
@@ -65,10 +66,10 @@ def do(items, place, variables):
 class Case:
     """One case in a room: what was not right of its calls."""
 
-    def __init__(self, room, fields, compiler, tools, with_ccache):
+    def __init__(self, room, fields, is_judged, compiler, tools, with_ccache):
         _, files, self.line, change, again, right = fields
         self.room, self.wrong, self.verdicts, self.with_ccache, self.others = room, [], [], with_ccache, []
-        self.escapes, self.compiler = False, compiler
+        self.escapes, self.compiler, self.is_judged = False, compiler, is_judged
         self.variables = {**room.variables, **tools, "CC": compiler, "CACHED": f"{WRAPPER} {compiler}"}
         second, _, last = right.rpartition(", ")
         self.act(files)
@@ -94,7 +95,8 @@ class Case:
         """The call by a compiler, as a line of a shell."""
         line = unescape(self.line)
         if "$CXX" in line:
-            return ["sh", "-c", line.replace("$CXX", compiler.removesuffix(COMPILER).removesuffix("g++") + "g++")]
+            plusplus = compiler + "++" if compiler.endswith(CLANG) else compiler.removesuffix("gcc").removesuffix("g++") + "g++"
+            return ["sh", "-c", line.replace("$CXX", plusplus)]
         return ["sh", "-c", line.replace("$CC", compiler) if "$CC" in line else f"{compiler} {line}"]
 
     def call(self, name, right):
@@ -105,7 +107,7 @@ class Case:
             self.escapes = bool(judged.differing)
         elif judged.differing:
             self.wrong.append(f"{name} ({judged.verdict}): {', '.join(judged.differing)}")
-        elif right and self.compiler == COMPILER and judged.verdict not in right.split("/"):
+        elif right and self.is_judged and judged.verdict not in right.split("/"):
             self.wrong.append(f"{name} is {judged.verdict}, not {right}")
         if self.with_ccache:
             other = self.room.run(self.words(f"ccache {self.compiler}"), "w", {}, 0o022)
@@ -121,11 +123,11 @@ def build(directory):
     return {"STUB": directory + "/stub", "WHOLE": directory + "/whole.so"}
 
 
-def run(case, compiler, tools, with_ccache):
+def run(case, is_judged, compiler, tools, with_ccache):
     """Runs a case in a room of its own."""
     directory = tempfile.mkdtemp(prefix="cck-")
     try:
-        return Case(Room(directory), case, compiler, tools, with_ccache)
+        return Case(Room(directory), case, is_judged, compiler, tools, with_ccache)
     finally:
         shutil.rmtree(directory, ignore_errors=True)
 
@@ -141,8 +143,12 @@ def arguments():
 def main():
     options = arguments()
     need_program()
-    chosen = [case for case in cases() if not options.names or any(part in case[0] for part in options.names)]
-    for case in chosen:
+    tables = [(TABLE, options.compiler == COMPILER)]
+    if options.compiler == CLANG:
+        tables.insert(0, (CLANG_TABLE, True))
+    chosen = [(case, is_judged) for table, is_judged in tables for case in cases(table)
+              if not options.names or any(part in case[0] for part in options.names)]
+    for case, _ in chosen:
         if not set(case[5].replace(", ", "/").split("/")) <= set(VERDICTS):
             sys.exit(f"{TABLE}: no verdict: {case[5]}")
     with_ccache = shutil.which("ccache")
@@ -150,8 +156,8 @@ def main():
     with tempfile.TemporaryDirectory(prefix="cck-") as directory, concurrent.futures.ThreadPoolExecutor(
             options.jobs) as pool:
         tools = build(directory)
-        for case, done in zip(chosen, pool.map(
-                lambda case: run(case, options.compiler, tools, with_ccache), chosen)):
+        for (case, _), done in zip(chosen, pool.map(
+                lambda chosen: run(*chosen, options.compiler, tools, with_ccache), chosen)):
             failed += bool(done.wrong)
             others += bool(done.others)
             escaped += done.escapes

@@ -171,7 +171,6 @@ says_what_it_read() {
 # as ccache, may call a compiler with more options, or keep objects itself.
 is_known() {
     case ${cck_driver##*/} in
-    *clang*) return 1 ;;
     *gcc*|*g++*) ;;
     *) return 1 ;;
     esac
@@ -183,6 +182,30 @@ is_known() {
     /*) head -c 4 "$cck_driver" | grep -q ELF ;;
     *) return 1 ;;
     esac
+}
+
+# The same of clang 14, which compiles and assembles in one process. By the name under which it is called it is a compiler
+# for C or for C++, and `cck_proper` the program of that name beside it. It reads no configuration file, and no installation
+# of gcc but one in a directory for these (`find_installations`).
+knows_clang() {
+    case ${cck_located##*/} in
+    clang|clang-14|cc) cck_proper=${cck_driver%/*}/clang ;;
+    clang++|clang++-14|c++) cck_proper=${cck_driver%/*}/clang++ ;;
+    *) return 1 ;;
+    esac
+    cck_assembler= cck_plusplus=
+    case $("$cck_compiler" -dumpversion 2>/dev/null) in
+    14|14.*) ;;
+    *) return 1 ;;
+    esac
+    [ "$cck_proper" -ef "$cck_driver" ] && head -c 4 "$cck_driver" | grep -q ELF || return 1
+    true > "$cck_tried/empty.c"
+    case $(LC_ALL=C "$cck_compiler" '-###' -c "$cck_tried/empty.c" -o "$cck_tried/empty.o" 2>&1) in
+    *'Configuration file'*) return 1 ;;
+    *'(in-process)'*' "-cc1" '*) ;;
+    *) return 1 ;;
+    esac
+    [ ! -e /opt/rh ] && [ ! -e /etc/env.d/gcc ] && has_plain_libraries
 }
 
 # Whether the libraries that the programs load are named by absolute paths, without a space or a variable of the linker.
@@ -201,7 +224,7 @@ has_plain_libraries() {
 # they are not known.
 add_loaded() {
     [ ! -e /etc/ld.so.preload ] || cck_programs=$cck_programs:/etc/ld.so.preload
-    for cck_next in "$cck_driver" "$cck_proper" "$cck_assembler" $cck_plusplus; do
+    for cck_next in "$cck_driver" "$cck_proper" $cck_assembler $cck_plusplus; do
         cck_loaded=$(LC_ALL=C ldd "$cck_next" 2>&1) || case $cck_loaded in
         *'not a dynamic executable'*) cck_loaded= ;;
         *) return 1 ;;
@@ -254,6 +277,22 @@ add_searched() {
     done
 }
 
+# Adds the directories in which clang looks for installations of gcc, whose headers and libraries it takes, and those above
+# them; and the one of the files by which it knows the system.
+find_installations() {
+    for cck_top in "${cck_located%/*}/.." "${cck_driver%/*}/.." /usr; do
+        for cck_next in "$cck_top" "$cck_top"/lib "$cck_top"/lib32 "$cck_top"/lib64 "$cck_top"/lib*/gcc "$cck_top"/lib*/gcc-cross \
+            "$cck_top"/lib*/gcc*/* "$cck_top"/lib*/gcc*/*/*; do
+            [ ! -d "$cck_next/." ] || add_searched "$cck_next"
+        done
+    done
+    add_searched /opt
+    add_searched /etc
+    for cck_next in /etc/*-release /usr/lib/os-release /etc/*_version; do
+        [ ! -e "$cck_next" ] || cck_searched=$cck_searched:$cck_next
+    done
+}
+
 # Sets `cck_searched` to the directories in which the compiler looks for programs, with colons between them. One that is
 # not there is named by the one above it, which changes when it comes. It fails where they are not known.
 find_searched() {
@@ -276,6 +315,7 @@ find_searched() {
         done
         add_searched "${cck_directory:-/}"
     done
+    ! is_clang || find_installations
 }
 
 # Sets `cck_proper` to the program that makes assembler code of a source in C, which is that for C++ if the compiler takes the
@@ -329,6 +369,9 @@ write_list() {
 # Whether a compilation by this compiler and its assembler can be recorded, by what they say of themselves.
 knows_compiler() {
     cck_driver=$(readlink -f "$cck_located" 2>/dev/null)
+    case ${cck_driver##*/} in
+    *clang*) knows_clang; return ;;
+    esac
     cck_assembler=$(command -v "$("$cck_compiler" -print-prog-name=as 2>/dev/null)")
     find_proper
     is_known && ! reads_specs && has_plain_libraries && says_what_it_read "$cck_assembler" "$cck_tried"
@@ -339,7 +382,7 @@ knows_compiler() {
 ask_compiler() {
     cck_programs=-
     if knows_compiler || knows_compiler; then
-        cck_programs=$cck_located:$cck_proper:$cck_assembler${cck_plusplus:+:$cck_plusplus}
+        cck_programs=$cck_located:$cck_proper${cck_assembler:+:$cck_assembler}${cck_plusplus:+:$cck_plusplus}
         add_loaded || { cck_programs=-; return; }
     fi
     name_list
@@ -364,19 +407,37 @@ fields() {
 # (-dU).
 paths() { cck_input=$1 cck_out=$2 cck_dependencies=$3 cck_programs=$4 cck_macros=$5; }
 
+# Whether the compiler of these programs is clang.
+is_clang() {
+    cck_next=${cck_programs#*:}
+    case ${cck_next%%:*} in
+    */clang|*/clang++) return 0 ;;
+    esac
+    return 1
+}
+
 # Divides what `look` printed: a line with the answer, one for `paths`, and one with the arguments of
 # the preprocessor. The last two are quoted for a shell.
 divide() {
     cck_preprocessed=${cck_found#*"$cck_newline"} cck_found=${cck_found%%"$cck_newline"*}
     eval "paths ${cck_preprocessed%%"$cck_newline"*}"
     cck_preprocessed=${cck_preprocessed#*"$cck_newline"}
+    # clang shows all macros or none.
+    ! is_clang || cck_macros=-dD
 }
 
 # Runs the compiler on the compiler's words of a call, and has the assembler say what it reads, and the compiler
-# what it opens, unless its dependency file does.
+# what it opens, unless its dependency file does. In clang the assembler is a part of the compiler, which says nothing of
+# it: what is assembled was judged (`judge_text`).
 compile() {
     while [ "$1" != -- ]; do shift; done
     shift
+    if is_clang; then
+        echo 'object: {standard\ input}' > "$cck_scratch/assembled"
+        [ -n "$cck_dependencies" ] || set -- "$@" -MD -MF "$cck_scratch/opened"
+        "$cck_compiler" "$@"
+        return
+    fi
     set -- "$@" -Xassembler --MD -Xassembler "$cck_scratch/assembled"
     if [ -n "$cck_dependencies" ]; then
         "$cck_compiler" "$@"
@@ -570,7 +631,7 @@ is_cplusplus() {
     ! is_assembler || return 1
     cck_next=${cck_programs#*:}
     case ${cck_next%%:*} in
-    */cc1plus) return 0 ;;
+    */cc1plus|*/clang++) return 0 ;;
     esac
     case $cck_input in
     *?.cc|*?.cp|*?.cxx|*?.cpp|*?.CPP|*?.c++|*?.C) return 0 ;;
@@ -588,7 +649,7 @@ has_proper() {
         esac
         return 1
     fi
-    is_cplusplus || return 0
+    if is_clang || ! is_cplusplus; then return; fi
     case $cck_programs: in
     *:/*/cc1plus:*) ;;
     *) return 1 ;;
@@ -604,17 +665,25 @@ has_proper() {
 # has no -D and -U. In C++ it warns of what follows a literal and is a macro when it is read, and not a suffix, which shows in
 # no other way. What is on standard input is for the compiler.
 preprocess() {
-    cck_warnings=-Wno-pedantic
-    ! is_cplusplus || cck_warnings=-Wliteral-suffix
+    cck_warnings='-fno-canonical-system-headers -Wno-pedantic'
+    ! is_cplusplus || cck_warnings='-fno-canonical-system-headers -Wliteral-suffix'
+    ! is_clang || cck_warnings=
     eval "LC_ALL=C \"\$cck_compiler\" $cck_preprocessed" \
-        '-Wdate-time -Wsystem-headers -Wno-error -fno-canonical-system-headers' "$cck_warnings $cck_macros $2" \
+        '-Wdate-time -Wsystem-headers -Wno-error' "$cck_warnings $cck_macros $2" \
         '-dI -E -v -o "$cck_scratch/$1"' < /dev/null 2> "$cck_scratch/$1-search" || true > "$cck_scratch/failed"
 }
 
-# Sets `cck_own` to the compiler's own directory of headers, which is beside its programs.
+# Sets `cck_own` to the compiler's own directory of headers, which is beside its programs. Where clang may have two it is none.
 find_own() {
     cck_own=${cck_programs#*:} cck_own=${cck_own%%:*}
-    cck_own=${cck_own%/*}/include/
+    cck_own=${cck_own%/*}
+    if is_clang; then
+        set -- "${cck_own%/*}"/lib/clang/*/include/
+        cck_own=/dev/null/
+        [ $# -ne 1 ] || cck_own=$1
+    else
+        cck_own=$cck_own/include/
+    fi
 }
 
 # Functions of `judge_text`. `read_line` and `read_file` read a file of the project, without its splices. They look for the
@@ -632,6 +701,9 @@ cck_reading='
     BEGIN {
         is_c = ENVIRON["cck_is_c"] != ""
         is_assembler = ENVIRON["cck_is_assembler"] != ""
+        is_clang = ENVIRON["cck_is_clang"] != ""
+        known = "text|data|bss|previous|popsection|p2align|balign|align|byte|[248]byte|short|word|value|long|int|quad|ascii" \
+            "|asciz|string|zero|skip|space|globl|global|weak|hidden|local|comm|type|size|set|symver|ident"
         first_of_test = "__ha(s(_(i(n(c(l(u(de?)?)?)?)?)?|e(m(b(ed?)?)?)?)?)?)?([^A-Za-z0-9_$]|$)"
         blank = "[ \t\r\f\013]"
         comment = "/[*]([^*]|[*]+[^*/])*"
@@ -772,6 +844,40 @@ cck_reading='
             line = substr(line, place)
         }
         return 0
+    }
+    function read_search(line, size, words, at) {
+        if (sub(/^ignoring nonexistent directory "/, "", line)) listed[substr(line, 1, length(line) - 1)]
+        if (line ~ /^ [^ ].* -cc1 /) {
+            size = split(line, words, " ")
+            for (at = 1; at < size; at++)
+                if (words[at] ~ /^-(I|iquote|isystem|idirafter|c-isystem|cxx-isystem|internal-isystem|internal-externc-isystem)$/) {
+                    sub("/+$", "", words[at + 1])
+                    given[words[at + 1]]
+                }
+        } else if (line ~ /^ [^ ]/) listed[substr(line, 2)]
+    }
+    function read_code(line, word) {
+        while (match(line, /"([^"\\]|\\.)*"|\047([^\047\\]|\\.)*\047|[A-Za-z_$][A-Za-z0-9_$]*|[^ \t]/)) {
+            word = substr(line, RSTART, RLENGTH)
+            line = substr(line, RSTART + RLENGTH)
+            if (nesting > 0) {
+                if (word == "\"") reason = "assembler-include"
+                if (word == "(") nesting++
+                if (word ~ /^"./) code = code substr(word, 2, length(word) - 2)
+                if (word == ")" && --nesting == 0) judge_code(code)
+            } else if (word ~ /^(asm|__asm|__asm__)$/) waits = 1
+            else if (waits && word == "(") { nesting = has_code = 1; waits = 0; code = "" }
+            else if (word !~ /^(volatile|__volatile|__volatile__|goto|inline|__inline|__inline__)$/) waits = 0
+        }
+    }
+    function judge_code(code, word) {
+        if (code ~ /\\[^nt"]|[{|]|\.$/) reason = "assembler-include"
+        gsub(/\.(push)?section[ \t]+[A-Za-z0-9_.$-]+/, " ", code)
+        while (match(code, /\.[A-Za-z0-9_$%\\]*/)) {
+            word = substr(code, RSTART + 1, RLENGTH - 1)
+            code = substr(code, RSTART + RLENGTH)
+            if (word !~ ("^(" known ")$") && word !~ /^(L[A-Za-z0-9_$%]*|[0-9]*|cfi_[a-z_]+)$/) reason = "assembler-include"
+        }
     }'
 
 # What `judge_text` does with what the preprocessor printed on standard error, and with the text.
@@ -787,12 +893,24 @@ cck_reading='
 # may make of any line. In a pragma of diagnostics or of visibility it expands none; one that turns a warning on may warn of
 # a macro that the text does not show. What is pasted after `> struct` is the name of a class, unless `struct` is a macro,
 # or a parameter of that definition.
+#
+# clang gives directories that are one the first of their names, so that each name of a directory has to be among those that
+# it lists, or of which it says that they are none (`read_search`). It enters a file for the macros that it defines itself and
+# one for those of the arguments, and then returns to the input. It names headers of gcc by way of its own directory. It
+# assembles by itself, so that a text is refused whose code for the assembler has other directives than some that read no
+# file: its strings are put together, and no macro, alternative or operand of it makes the name of a directive (`read_code`,
+# `judge_code`). A pragma takes effect when it preprocesses too, so that one that may turn off the warning of a time macro counts
+# as one.
 cck_judging='
     !is_text {
         if (/warning: /) warns = 1
-        if (/might prevent reproducible builds/) shows_time = 1
+        if (/might prevent reproducible builds|time macro is not reproducible/) shows_time = 1
+        if (is_clang) read_search($0)
         next
     }
+    is_clang && !is_read++ { for (name in given) if (!(name in listed)) reason = "other-file" }
+    is_clang && (nesting > 0 || waits || /asm/) && !/^#/ { read_code($0) }
+    is_clang && /R"/ && !/^#/ { has_raw = 1 }
     index($0, "R\"") && goes_on($0) { marks = 1 }
     /target/ && /(^|[^A-Za-z0-9_$])(__)?target(_clones)?(__)?[ \t]*([(]|$)/ { sets_targets = 1 }
     !/^[ \t]*#/ { next }
@@ -815,14 +933,20 @@ cck_judging='
         sub(/^# [0-9]+ "/, "", name)
         name = substr(name, 1, length(name) - length(flags) - 1)
         if (index(name, "\\")) reason = "other-file"
+        if (is_clang && !in_input) {
+            if (name ~ /^<(built-in|command line)>$/) { current = name; next }
+            if (flags ~ /^ 2/) { in_input = 1; flags = ""; current = name }
+        }
         if (flags !~ /^ [12]/ && name != current) {
             if (in_input || depth > 0) marks = 1
             else if (current == "<command-line>") in_input = 1
         }
         current = name
         is_system = flags ~ / 3/
-        is_own = index(name, ENVIRON["cck_own"]) == 1 && name !~ /\/\.\.\//
-        is_of_project = !is_own && (index(name, "/usr/include/") != 1 || name ~ /\/\.\.\//)
+        place = name
+        if (is_clang) sub(/^\/usr\/bin\/\.\.\/lib\/gcc\/[^\/]+\/[0-9]+\/\.\.\/\.\.\/\.\.\/\.\.\/include\//, "/usr/include/", place)
+        is_own = index(place, ENVIRON["cck_own"]) == 1 && place !~ /\/\.\.\//
+        is_of_project = !is_own && (index(place, "/usr/include/") != 1 || place ~ /\/\.\.\//)
         if (flags ~ /^ 1/) {
             found = 1
             if (owns[depth] && is_of_project) reason = "target-pragma"
@@ -838,6 +962,9 @@ cck_judging='
         }
     }
     !/^[ \t]*#[ \t]*pragma/ { next }
+    is_clang && /diagnostic/ && (!/diagnostic[ \t]+(push|pop|[a-z]+[ \t]+"-W[A-Za-z0-9+=_-]+")[ \t]*$/ || /-Wdate-time|-Weverything/) {
+        shows_time = 1
+    }
     !/^[ \t]*#[ \t]*pragma[ \t]+GCC[ \t]+diagnostic[ \t]+(push|pop|ignored[ \t]+"-W[a-z0-9+=-]+")[ \t]*$/ &&
         !/^[ \t]*#[ \t]*pragma[ \t]+GCC[ \t]+visibility[ \t]+(push[(](default|hidden|internal|protected)[)]|pop)[ \t]*$/ {
         has_pragmas = 1
@@ -868,6 +995,7 @@ cck_judging='
         if (asks && ((targets && sets_targets) || silences)) reason = "other-file"
         if (tests && parallel && ENVIRON["cck_extended"] != "") reason = "header-test"
         if (stands && is_macro(FILENAME)) reason = "header-test"
+        if (nesting > 0 || (has_raw && has_code)) reason = "assembler-include"
         print shows_time ? "time-macro" : reason
         print doubts (asks ? " builtins" : "")
         print (warns || has_pragmas || saves ? "all" : "")
@@ -880,7 +1008,7 @@ cck_judging='
 # pragmas that save macros hide uses, and warnings may name others.
 judge_text() {
     cck_own=$cck_own cck_extended=$cck_extended cck_targets=$cck_targets cck_is_c=$cck_is_c cck_is_assembler=$cck_is_assembler \
-        LC_ALL=C awk "$cck_reading$cck_judging" "$cck_scratch/text-search" is_text=1 "$cck_scratch/text" < /dev/null
+        cck_is_clang=$cck_is_clang LC_ALL=C awk "$cck_reading$cck_judging" "$cck_scratch/text-search" is_text=1 "$cck_scratch/text" < /dev/null
 }
 
 # Sets what the arguments say beside the text: `cck_extended` if the call has OpenMP or OpenACC; `cck_targets` if an argument
@@ -889,7 +1017,8 @@ judge_text() {
 # the whole text before it parses it: no declaration and no pragma of a target counts for the preprocessor. So it is for
 # assembler code, in which no test for a header is judged.
 judge_arguments() {
-    cck_extended= cck_targets= cck_hidden= cck_is_c=1 cck_is_assembler=
+    cck_extended= cck_targets= cck_hidden= cck_is_c=1 cck_is_assembler= cck_is_clang=
+    ! is_clang || cck_is_clang=1
     ! is_cplusplus || cck_is_c=
     ! is_assembler || cck_is_c= cck_is_assembler=1
     case $cck_preprocessed in
@@ -985,6 +1114,11 @@ judge_builtins() {
     *builtins*:*|*:*as_builtin*|*:*__ha*) ;;
     *) return ;;
     esac
+    # clang does not list what it declares.
+    if is_clang; then
+        cck_refused=other-file
+        return
+    fi
     preprocess other "$cck_words -fno-builtin"
     cmp -s "$cck_scratch/text" "$cck_scratch/other" || cck_refused=other-file
     declares_builtin

@@ -1,4 +1,5 @@
 pub mod CallLemmas
+mod Examples
 pub mod IncludedLemmas
 pub mod InputLemmas
 pub mod LookLemmas

@@ -16,7 +16,8 @@ use Rattle.cck_cache_options.specs.Call.{is_assembler, is_cplusplus}
 use Rattle.cck_cache_files.specs.Compiler.{IsContentsDigest, IsStatusDigest, is_hex_digest}
 use Rattle.cck_compiler.specs.Arguments.{Arguments, only_input}
 use Rattle.cck_compiler.specs.Seen.{arguments_of}
-use Rattle.cck_compiler.specs.declared.compiler.CCompilerKind.TheVariants.{Gcc}
+use Rattle.cck_compiler.specs.declared.compiler.CCompilerKind.{CCompilerKind}
+use Rattle.cck_compiler.specs.declared.compiler.CCompilerKind.TheVariants.{Clang, Gcc}
 use Rattle.cck_files.specs.FileMap.{FileMap}
 use Rattle.cck_path.specs.Bytes.{Bytes, lists_of}
 use Rattle.cck_path.specs.Timestamp.{Moment}
@@ -52,9 +53,22 @@ AreKeyed words variables arguments = (base : Option Bytes) × BaseOf words base 
 abbrev pub is_colon : ℕ → Bool
 is_colon byte = byte == 58
 
--- a compiler takes a source in C for one in C++: the second of its programs, which have colons between them, is that for C++
+-- the second of a compiler's programs, which have colons between them
+abbrev pub proper_program : Bytes → Bytes
+proper_program programs = before_first is_colon (after_first is_colon programs)
+
+-- a compiler takes a source in C for one in C++: this program is that for C++
 abbrev pub is_plusplus : Bytes → Bool
-is_plusplus programs = ends_with nat_eq (before_first is_colon (after_first is_colon programs)) (codes "/cc1plus")
+is_plusplus programs =
+    ends_with nat_eq (proper_program programs) (codes "/cc1plus") || ends_with nat_eq (proper_program programs) (codes "/clang++")
+
+-- a compiler is clang: this program has its name
+abbrev pub is_clang : Bytes → Bool
+is_clang programs =
+    ends_with nat_eq (proper_program programs) (codes "/clang") || ends_with nat_eq (proper_program programs) (codes "/clang++")
+
+abbrev pub kind_of : Bytes → CCompilerKind
+kind_of programs = if is_clang programs then Clang else Gcc
 
 -- the language of an input, by the compiler and by its name
 abbrev pub language_of : Request → Language
@@ -62,13 +76,13 @@ language_of request =
     if is_assembler request.input.now then AssemblerToPreprocess
     else if is_plusplus (string_bytes request.compiler) || is_cplusplus request.input.now then Cxx else C
 
--- gcc, whose version and assembler are part of the digest of its programs
-abbrev pub gcc : Bool → External
-gcc plusplus = record { kind = Gcc; plusplus = plusplus; version = None; assembler_digest = None }
+-- the compiler with these programs, whose version and assembler are part of their digest
+abbrev pub compiler_of : Bytes → External
+compiler_of programs = record { kind = kind_of programs; plusplus = is_plusplus programs; version = None; assembler_digest = None }
 
 -- a command line with this input of this language, these definitions of macros, of which the text shows those that count, and these other arguments
-abbrev pub gcc_arguments : Bytes → Language → List Bytes → List Bytes → Arguments
-gcc_arguments input language definitions arguments =
+abbrev pub given_arguments : Bytes → Language → List Bytes → List Bytes → Arguments
+given_arguments input language definitions arguments =
     record (only_input input language) { preprocessor_args = definitions; common_args = arguments }
 
 -- The digest of these programs: of what the system says of each. Where a directory keeps digests, it is that of their
@@ -79,12 +93,12 @@ IsCompilerDigest (Some _) programs digest = IsTrue (is_hex_digest digest) ⊎ Is
 
 -- The compilation of a request.
 pub record IsHasher (environment : Environment) (request : Request) (hasher : CCompilerHasher ExternalCompiler) : Type 0 where
-  pub compiler : external_of hasher.compiler ≡ gcc (is_plusplus (string_bytes request.compiler))
+  pub compiler : external_of hasher.compiler ≡ compiler_of (string_bytes request.compiler)
   pub executable : hasher.executable.items ≡ []
   pub digest : IsCompilerDigest request.digests (string_bytes request.compiler) (string_bytes hasher.executable_digest)
   pub arguments : List Bytes
   pub keyed : AreKeyed (request_words request) environment.compiler_variables.items arguments
-  pub parsed : arguments_of hasher.parsed_args ≡ gcc_arguments request.input.now (language_of request) (lists_of request.definitions.items) arguments
+  pub parsed : arguments_of hasher.parsed_args ≡ given_arguments request.input.now (language_of request) (lists_of request.definitions.items) arguments
 
 -- the request over a snapshot, at this time and with these base directories
 pub record IsRequest (environment : Environment) (request : Request) (time : Moment) (bases : List Bytes) (asked : SnapshotRequest) : Type 0 where

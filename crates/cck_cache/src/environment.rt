@@ -38,8 +38,9 @@ const COMPILER_VARIABLES: [&str; 11] = [
 ];
 
 // The variables with which a call is passed on, if one is set, even to nothing. By these, other programs, directories
-// or libraries are found, further files are written, the compiler compiles twice, or messages differ.
-const PASSED: [&str; 15] = [
+// or libraries are found, further files are written, the compiler compiles twice, or arguments, code or messages differ.
+// Those of clang are at the end.
+const PASSED: [&str; 25] = [
     "GCC_EXEC_PREFIX",
     "COMPILER_PATH",
     "GCC_ROOT",
@@ -55,6 +56,16 @@ const PASSED: [&str; 15] = [
     "LD_HWCAP_MASK",
     "LD_PROFILE",
     "GLIBC_TUNABLES",
+    "CCC_OVERRIDE_OPTIONS",
+    "CC_PRINT_OPTIONS",
+    "CC_PRINT_HEADERS",
+    "CC_PRINT_PROC_STAT",
+    "CC_LOG_DIAGNOSTICS",
+    "FORCE_CLANG_DIAGNOSTICS_CRASH",
+    "RC_DEBUG_OPTIONS",
+    "LLVM_OVERRIDE_PRODUCER",
+    "AS_SECURE_LOG_FILE",
+    "ROCM_PATH",
 ];
 
 // The variables by which programs and the libraries that they load are found.

@@ -13,7 +13,7 @@ use crate::outputs::write_outputs;
 use crate::places::are_free;
 use crate::programs::{Named, programs_of};
 use crate::record::{Outcome, record};
-use crate::request::request_key;
+use crate::request::{is_clang, request_key};
 use crate::seal::seal;
 use crate::store::store_in;
 use crate::unpack::{Taken, unpack};
@@ -24,7 +24,7 @@ use cck_cache_arguments::{
     Task, task_of,
 };
 use cck_cache_files::{Kind, StoreDirectory, entry_name};
-use cck_cache_options::{Call, GCC, NATIVE, Row, rows_of};
+use cck_cache_options::{CLANG, Call, GCC, NATIVE, Row, rows_of};
 use cck_cache_server::{Peer, RemotePeer, StreamPeer, address_in};
 use cck_cache_store::{
     clear_store, limit_shares, print_files, print_stats, prune_store, verify_store,
@@ -469,6 +469,15 @@ fn judged<'a>(
     judge(alloc, &rows, arguments)
 }
 
+// The table of options of the compiler with these programs, and the rows for the machine's processor.
+fn tables_of(programs: &str) -> (&'static [u8], &'static [u8]) {
+    if is_clang(programs) {
+        (CLANG, b"")
+    } else {
+        (GCC, NATIVE)
+    }
+}
+
 // What a call of a compiler asks for whose programs these are, or why the call is not cached. The only error is
 // lack of memory.
 fn wanted_of<'a, R: Files + AllocGlobal>(
@@ -478,7 +487,8 @@ fn wanted_of<'a, R: Files + AllocGlobal>(
     programs: String,
 ) -> Result<Asked<'a>, AllocError> {
     let (alloc, knows_native) = (rt.alloc(), environment.knows_native);
-    let (asked, paths) = match judged(alloc, GCC, NATIVE, knows_native, &call.arguments)? {
+    let (table, native) = tables_of(programs.as_str());
+    let (asked, paths) = match judged(alloc, table, native, knows_native, &call.arguments)? {
         Judged::Asks(asked, paths) => (asked, paths),
         Judged::PassedOn(reason) => return Ok(Asked::PassedOn(reason)),
     };

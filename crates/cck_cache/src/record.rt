@@ -16,7 +16,7 @@ use crate::entry_place::place_for;
 use crate::environment::Environment;
 use crate::input::input_snapshot;
 use crate::naming::name_in;
-use crate::request::{base_words, hasher_of, snapshot_request};
+use crate::request::{base_words, hasher_of, is_clang, snapshot_request};
 use anyhow::Result;
 use c_cache_keys::PreprocessorKey;
 use cck_cache_arguments::{Compilation, Made, Request};
@@ -170,6 +170,7 @@ fn see<R: Files + AllocGlobal>(
         since: compilation.since,
         text,
         printed: &printed,
+        renames: !is_clang(request.compiler.as_str()),
     };
     see_by(rt, &preprocessed)
 }

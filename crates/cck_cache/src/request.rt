@@ -4,7 +4,7 @@ ghost use Rattle.std.specs.List.{after_first, before_first};
 ghost use Rattle.std.specs.Option.{option_map};
 ghost use Rattle.cck_cache_rules.specs.Base.{word_lists};
 ghost use Rattle.cck_cache.specs.Input.{IsInput};
-ghost use Rattle.cck_cache.specs.Request.{AreKeyed, HasPreprocessorKey, IsCompilerDigest, IsHasher, IsRequest, gcc_arguments, is_colon, is_plusplus, language_of, request_words};
+ghost use Rattle.cck_cache.specs.Request.{AreKeyed, HasPreprocessorKey, IsCompilerDigest, IsHasher, IsRequest, given_arguments, is_clang, is_colon, is_plusplus, kind_of, language_of, proper_program, request_words};
 ghost use Rattle.cck_cache_arguments.specs.declared.request.Request as words;
 ghost use Rattle.cck_compiler.specs.Seen.{arguments_of};
 ghost use Rattle.cck_path.specs.Bytes.{lists_of};
@@ -100,13 +100,38 @@ fn after_colon(text: &str) -> &str
     }
 }
 
+// The second of these programs, which have colons between them: that which compiles.
+fn proper_program(programs: &str) -> &str
+    ensures { result.now ≡ proper_program programs.now }
+{
+    before_colon(after_colon(programs))
+}
+
 // Whether the compiler with these programs takes a source in C for one in C++.
 fn is_plusplus(programs: &str) -> bool
     ensures { result ≡ is_plusplus programs.now }
 {
-    before_colon(after_colon(programs))
-        .as_bytes()
-        .ends_with(b"/cc1plus")
+    let program = proper_program(programs).as_bytes();
+    program.ends_with(b"/cc1plus") || program.ends_with(b"/clang++")
+}
+
+/// Whether the compiler with these programs is clang, and not gcc.
+pub fn is_clang(programs: &str) -> bool
+    ensures { result ≡ is_clang programs.now }
+{
+    let program = proper_program(programs).as_bytes();
+    program.ends_with(b"/clang") || program.ends_with(b"/clang++")
+}
+
+// The kind of the compiler with these programs.
+fn kind_of(programs: &str) -> CCompilerKind
+    ensures { result ≡ kind_of programs.now }
+{
+    if is_clang(programs) {
+        CCompilerKind::Clang
+    } else {
+        CCompilerKind::Gcc
+    }
 }
 
 // The language of the input of a request.
@@ -133,7 +158,7 @@ fn parsed(
     common_args: Vec<Vec<u8>>,
 ) -> ParsedArguments
     ensures { arguments_of result
-        ≡ gcc_arguments input.items language (lists_of definitions.items) (lists_of common_args.items) }
+        ≡ given_arguments input.items language (lists_of definitions.items) (lists_of common_args.items) }
 {
     let mut arguments = ParsedArguments::new(alloc, input, language);
     arguments.preprocessor_args = definitions;
@@ -161,7 +186,7 @@ fn digest_of<R: Files + AllocGlobal>(
     Ok(shared_compiler_digest(rt, &store, programs).context(PROGRAM)?)
 }
 
-/// The compilation of a request, by gcc. Its digest is also that of its version and its assembler.
+/// The compilation of a request. The compiler's digest is also that of its version and its assembler.
 ///
 /// The error is of a program of the compiler that can't be read, of a store of digests that can't be
 /// opened, or lack of memory.
@@ -179,7 +204,7 @@ pub fn hasher_of<R: Files + AllocGlobal>(
     let arguments = keyed_arguments(alloc, environment, request)?;
     Ok(CCompilerHasher {
         compiler: ExternalCompiler {
-            kind: CCompilerKind::Gcc,
+            kind: kind_of(request.compiler.as_str()),
             plusplus: is_plusplus(request.compiler.as_str()),
             version: None,
             assembler_digest: None,

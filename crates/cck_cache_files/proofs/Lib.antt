@@ -1,5 +1,6 @@
 pub mod CompilerLemmas
 pub mod CopyLemmas
+mod Examples
 pub mod ListingLemmas
 pub mod PathLemmas
 pub mod ProgramLemmas

@@ -1,5 +1,5 @@
 -- the digests of the programs that a compilation runs
-use Rattle.std.specs.Prelude.{◌≡◌, ◌==◌, ℕ, ℤ, List, [], ◌∷◌, ◌++◌, Bool, ◌&&◌, length, codes}
+use Rattle.std.specs.Prelude.{◌≡◌, ◌==◌, ℕ, ℤ, List, [], ◌∷◌, ◌++◌, Bool, ◌&&◌, IsTrue, length, codes}
 use Rattle.std.specs.Char.{is_ascii_hexdigit}
 use Rattle.std.specs.Fmt.{decimal, signed_decimal}
 use Rattle.std.specs.List.{AllZip, list_all, slice_split}
@@ -11,6 +11,14 @@ use Rattle.cck_cache_files.specs.declared.compiler.Part.TheVariants.{Contents, S
 -- whether a text is 64 hexadecimal digits
 abbrev pub is_hex_digest : List ℕ → Bool
 is_hex_digest text = length text == 64 && list_all is_ascii_hexdigit text
+
+-- whether these are the contents of the file that keeps this digest under this name
+abbrev pub IsDigestFile : List ℕ → List ℕ → List ℕ → Type 0
+IsDigestFile name digest contents = IsTrue (is_hex_digest digest) × (contents ≡ (digest ++ codes " ") ++ name)
+
+-- whether these are those of no digest under this name
+abbrev pub HasNoDigest : List ℕ → List ℕ → Type 0
+HasNoDigest name contents = (digest : List ℕ) → IsDigestFile name digest contents → ⊥
 
 -- what the system says of a file: its device, inode and size, and when its contents and its status last changed
 pub record FileStatus : Type 0 where

@@ -1,7 +1,7 @@
 //! The programs that a compilation runs.
-ghost use Rattle.std.specs.Prelude.{◌≡◌, ◌⊎◌, ℕ, List, IfOk, IfSome, IsTrue, string_bytes};
+ghost use Rattle.std.specs.Prelude.{◌≡◌, ◌⊎◌, ℕ, List, IfOk, IfSome, IsTrue, MatchOption, string_bytes};
 ghost use Rattle.cck_digest.specs.Digest.{digest_text};
-ghost use Rattle.cck_cache_files.specs.Compiler.{IsContentsDigest, IsContentsLine, IsProgramLine, IsProgramsDigest, IsStatusDigest, IsStatusLine, is_hex_digest, place_text, instant_text};
+ghost use Rattle.cck_cache_files.specs.Compiler.{HasNoDigest, IsContentsDigest, IsContentsLine, IsDigestFile, IsProgramLine, IsProgramsDigest, IsStatusDigest, IsStatusLine, is_hex_digest, place_text, instant_text};
 
 use crate::store_directory::StoreDirectory;
 use cck_digest::{Digest, HashState, Sha256State};
@@ -120,23 +120,35 @@ pub fn compiler_digest<R: Files + AllocGlobal>(rt: &R, paths: &str) -> io::Resul
 }
 
 // Whether a text is 64 hexadecimal digits.
-fn is_hex_digest(text: &str) -> bool
+fn is_hex_digest(text: &[u8]) -> bool
     ensures { result ≡ is_hex_digest text.now }
 {
-    text.len() == DIGITS && text.as_bytes().iter().all(|byte| byte.is_ascii_hexdigit())
+    text.len() == DIGITS && text.iter().all(|byte| byte.is_ascii_hexdigit())
 }
 
-// The digest that a file has, if it has one and nothing else.
-fn kept_digest<R: Files + AllocGlobal>(rt: &R, path: &str) -> Option<String>
+// The digest in what the file of this name holds: the digest, a space and the name. `None` where it holds
+// something else, as the file of another name does.
+fn digest_in<'a>(contents: &'a [u8], name: &[u8]) -> Option<&'a [u8]>
+    ensures { MatchOption result (HasNoDigest name.now contents.now)
+        (λ digest. IsDigestFile name.now digest.now contents.now) }
+{
+    let digest = contents.strip_suffix(name)?.strip_suffix(b" ")?;
+    if is_hex_digest(digest) {
+        Some(digest)
+    } else {
+        None
+    }
+}
+
+// The digest that the file at this path holds for this name.
+fn kept_digest<R: Files + AllocGlobal>(rt: &R, path: &str, name: &str) -> Option<String>
     ensures { IfSome result (λ text. IsTrue (is_hex_digest (string_bytes text))) }
 {
-    let bytes = fs::read(rt, path).ok()?;
-    let text = std::str::from_utf8(&bytes).ok()?;
-    if !is_hex_digest(text) {
-        return None;
-    }
-    let digest = String::from_str(rt.alloc(), text).ok()?;
-    Some(digest)
+    let contents = fs::read(rt, path).ok()?;
+    let digest = digest_in(&contents, name.as_bytes())?;
+    let text = std::str::from_utf8(digest).ok()?;
+    let text = String::from_str(rt.alloc(), text).ok()?;
+    Some(text)
 }
 
 /// The hex digest of the path and the contents of each of these programs, whose paths are separated
@@ -156,13 +168,13 @@ pub fn shared_compiler_digest<R: Files + AllocGlobal>(
 {
     let name = compiler_digest(rt, paths)?;
     let path = store.digest_path(rt, name.as_str())?;
-    if let Some(digest) = kept_digest(rt, path.as_str()) {
+    if let Some(digest) = kept_digest(rt, path.as_str(), name.as_str()) {
         return Ok(digest);
     }
     let digest = programs_digest::<Sha256State, R>(rt, Part::Contents, paths)?;
     // A program that is replaced while it is read has a digest that is not kept.
     if compiler_digest(rt, paths)?.as_str() == name.as_str() {
-        let _ = store.keep_digest(rt, name.as_str(), digest.as_bytes());
+        let _ = store.keep_digest(rt, name.as_str(), digest.as_str());
     }
     Ok(digest)
 }

@@ -5,7 +5,7 @@
 //! changes what is compiled, though each header is found with its contents.
 //!
 //! Source: `-fno-canonical-system-headers` of the manual of GCC's preprocessor.
-ghost use Rattle.std.specs.Prelude.{◌≡◌, IfOk, IfSome, IsOkUnless, IsTrue, IsUtf8, MatchOption, OnOk, false};
+ghost use Rattle.std.specs.Prelude.{◌≡◌, IfOk, IfSome, IsOkUnless, IsTrue, IsUtf8, MatchOption, OnOk, false, true};
 ghost use Rattle.cck_cache_rules.specs.PathTest.{tests_of};
 ghost use Rattle.cck_cache_text.specs.Sets.{has_key};
 ghost use Rattle.cck_cache_files.specs.RealPaths.{ArePlaced, GainsPlace, GainsReal, HasReal, IsPathOf};
@@ -68,11 +68,19 @@ pub fn leads_to<R: Files + AllocGlobal>(
     }
 }
 
-// Whether GCC names the system header at a path by its real path in place of this name: that is shorter. `true` where
-// that can't be known.
-fn is_renamed<R: Files + AllocGlobal>(rt: &R, path: &[u8], name: &[u8]) -> Result<bool, AllocError>
-    ensures { IfOk result (λ renamed. renamed ≡ false → IsUtf8 path.now) }
+// Whether a compiler that renames headers names the system header at a path by its real path in place of this name: that
+// is shorter. `true` where that can't be known.
+fn is_renamed<R: Files + AllocGlobal>(
+    rt: &R,
+    path: &[u8],
+    name: &[u8],
+    renames: bool,
+) -> Result<bool, AllocError>
+    ensures { IfOk result (λ renamed. renames ≡ true → renamed ≡ false → IsUtf8 path.now) }
 {
+    if !renames {
+        return Ok(false);
+    }
     match real_path(rt, path)? {
         Some(real) => Ok(real.len() < name.len()),
         None => Ok(true),
@@ -110,16 +118,17 @@ impl LinkTests {
     }
 
     // Adds the tests of the links on the way to the file at a path, which has this name. Returns `false` where they
-    // can't be known, or GCC has another name for the file.
+    // can't be known, or the compiler has another name for the file.
     fn add<R: Files + AllocGlobal>(
         &mut self,
         rt: &R,
         path: &[u8],
         name: &[u8],
+        renames: bool,
     ) -> Result<bool, AllocError>
         ensures { IfOk result (λ known. IsTrue known → GainsPlace self.old path.now self.new) }
     {
-        if is_renamed(rt, path, name)? {
+        if is_renamed(rt, path, name, renames)? {
             return Ok(false);
         }
         if is_plain_file(rt, path) {
@@ -134,13 +143,15 @@ impl LinkTests {
 
 /// The tests of the links on the way to the files of these names, which are relative to a directory: of each that
 /// is no link itself, that it is none, and where its directory leads; of another one, where it leads. `None`
-/// where it is not known where one of them leads, or its real path is shorter than its name.
+/// where it is not known where one of them leads, or its real path is shorter than its name and the compiler renames
+/// headers by that.
 ///
 /// The only error is [`UtilError::Memory`].
 pub fn link_tests<R: Files + AllocGlobal>(
     rt: &R,
     directory: &[u8],
     names: &BTreeSet<Vec<u8>>,
+    renames: bool,
 ) -> Result<Option<LinkTests>, UtilError>
     ensures tests { IfOk result (λ found. MatchOption found
         ((name : Bytes) × IsTrue (has_key names.now name))
@@ -154,7 +165,7 @@ pub fn link_tests<R: Files + AllocGlobal>(
     };
     for name in names {
         let path = join_path(alloc, directory, name)?;
-        if !tests.add(rt, &path, name)? {
+        if !tests.add(rt, &path, name, renames)? {
             return Ok(None);
         }
     }

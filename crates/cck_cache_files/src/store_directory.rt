@@ -232,7 +232,8 @@ impl StoreDirectory {
         Ok(format!(in rt.alloc(); "{directory}/digests/{name}")?)
     }
 
-    /// Writes the file that keeps the digest of a compiler of this name, beside it and by a rename.
+    /// Writes the file that keeps the digest of a compiler of this name, beside it and by a rename: the
+    /// digest, a space and the name.
     ///
     /// The error is of a directory or a file that can't be made, of a file that can't be written or
     /// renamed, or lack of memory. The file of the name is then as it was.
@@ -240,12 +241,13 @@ impl StoreDirectory {
         &self,
         rt: &R,
         name: &str,
-        digest: &[u8],
+        digest: &str,
     ) -> io::Result<()> {
         let path = self.digest_path(rt, name)?;
         let directory = self.directory.as_str();
         fs::create_dir_all(rt, path_in(rt.alloc(), directory, "digests")?.as_str())?;
-        self.replace(rt, path.as_str(), digest)
+        let contents = format!(in rt.alloc(); "{digest} {name}")?;
+        self.replace(rt, path.as_str(), contents.as_bytes())
     }
 
     /// The time of now by the clock of the store's file system: when a file that is made now was

@@ -4,7 +4,7 @@
 //! the reading with a reason: the call then goes to the compiler as it came.
 //!
 //! - [`rows_of`] reads a table of options from its text. [`GCC`] is that of gcc, and [`NATIVE`] has rows that may come
-//!   before its own.
+//!   before its own. [`CLANG`] is that of clang.
 //! - [`parse`] reads the arguments of a call by the rows of a table. [`is_cplusplus`] says which inputs are in
 //!   C++, and [`is_assembler`] which are assembler code.
 //! - [`push_word`] appends an argument as a POSIX shell reads it back, and
@@ -15,6 +15,7 @@
 #![tactic(auto)]
 
 mod call;
+mod clang;
 mod definition;
 mod gcc;
 pub mod laws;
@@ -25,6 +26,7 @@ mod runs;
 mod table;
 
 pub use call::{Call, Keyed, Parsed, is_assembler, is_cplusplus, parse};
+pub use clang::CLANG;
 pub use definition::{is_definition, macro_option};
 pub use gcc::{GCC, NATIVE};
 pub use paths::{dependency_path, object_path};

@@ -86,7 +86,7 @@ pub fn absence_of<R: Files + AllocGlobal>(
     let left = left_directories(alloc, directory.as_bytes(), text)?;
     add_directories(alloc, &mut tests, &left)?;
     let systems = system_names(alloc, text)?;
-    let Some(links) = link_tests(rt, directory.as_bytes(), &systems)? else {
+    let Some(links) = link_tests(rt, directory.as_bytes(), &systems, preprocessed.renames)? else {
         return Ok(Absence::Refused(Refusal::NamedFile));
     };
     let LinkTests { plain, real } = links;

@@ -14,4 +14,6 @@ pub struct Preprocessed<'a> {
     pub text: &'a [u8],
     /// What the compiler printed of the directories that it searches for headers.
     pub printed: &'a [u8],
+    /// Whether the compiler names a system header by its real path where that is shorter, as gcc does.
+    pub renames: bool,
 }

@@ -36,7 +36,7 @@ ends_dependency line = has_dependency_word false line
 
 -- a line has a directive, or a part of the name of a pragma
 abbrev pub has_directive : List ℕ → Bool
-has_directive line = has line (codes "#") || has line (codes "%:") || has line (codes "??=") || has line (codes "GCC") || has line (codes "ragma")
+has_directive line = has line (codes "#") || has line (codes "%:") || has line (codes "??=") || has line (codes "GCC") || has line (codes "clang") || has line (codes "ragma")
 
 abbrev pub is_directive_line : List ℕ → Bool
 is_directive_line line = ends_dependency line && has_directive line

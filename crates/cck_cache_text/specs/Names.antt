@@ -13,9 +13,9 @@ first_of_name name (Name other is_system_in ∷ marks) = if bytes_eq name other 
 first_of_name name (Refusal ∷ marks) = first_of_name name marks
 first_of_name name (Malformed ∷ marks) = first_of_name name marks
 
--- a name of no file: none, that of the macros of GCC or of its arguments, or that of a working directory, which ends in two slashes
+-- a name of no file: none, that of the macros of a compiler or of its arguments, or that of a working directory, which ends in two slashes
 abbrev pub is_no_file : List ℕ → Bool
-is_no_file name = length name == 0 || (bytes_eq name (codes "<built-in>") || (bytes_eq name (codes "<command-line>") || ends_with nat_eq name (codes "//")))
+is_no_file name = length name == 0 || (bytes_eq name (codes "<built-in>") || (bytes_eq name (codes "<command-line>") || (bytes_eq name (codes "<command line>") || ends_with nat_eq name (codes "//"))))
 
 -- a mark names this file
 abbrev pub is_named : List Mark → List ℕ → Bool

@@ -71,6 +71,7 @@ fn has_directive(line: &[u8]) -> bool
         || has(line, b"%:")
         || has(line, b"??=")
         || has(line, b"GCC")
+        || has(line, b"clang")
         || has(line, b"ragma")
 }
 
@@ -92,7 +93,7 @@ pub fn is_dependency_line(line: &[u8]) -> bool
 /// Whether a source without its splices may have a pragma that compares the times of files, also by
 /// macros of several files.
 ///
-/// Source: "Pragmas" of the manual of GCC's preprocessor.
+/// Source: "Pragmas" of the manual of GCC's preprocessor. clang has the pragma as its own too.
 pub fn has_dependency_pragma(text: &[u8]) -> bool
     ensures { result ≡ has_dependency text.now }
 {

@@ -22,16 +22,23 @@ pub struct Named {
     pub directories: BTreeSet<Vec<u8>>,
 }
 
-// The names that GCC gives to the macros that it defines itself, and to those of its arguments.
+// The name that a compiler gives to the macros that it defines itself.
 const BUILT_IN: &[u8] = b"<built-in>";
 
+// Those that GCC and clang give to the macros of their arguments.
 const COMMAND_LINE: &[u8] = b"<command-line>";
 
-// Whether a name is of no file: one of these two, or a working directory.
+const CLANG_COMMAND_LINE: &[u8] = b"<command line>";
+
+// Whether a name is of no file: one of these, or a working directory.
 fn is_no_file(name: &[u8]) -> bool
     ensures { result ≡ is_no_file name.now }
 {
-    name.is_empty() || name == BUILT_IN || name == COMMAND_LINE || name.ends_with(b"//")
+    name.is_empty()
+        || name == BUILT_IN
+        || name == COMMAND_LINE
+        || name == CLANG_COMMAND_LINE
+        || name.ends_with(b"//")
 }
 
 // A name up to its last slash, which is part of it.
@@ -96,7 +103,7 @@ pub fn names_in(alloc: Global, text: &[u8]) -> Result<Named, AllocError>
 }
 
 /// The names of the files that this preprocessed text names, in order and each once: no name of no
-/// file, which are `<built-in>` and `<command-line>`, and no working directory.
+/// file, which are `<built-in>`, `<command-line>` and `<command line>`, and no working directory.
 ///
 /// The only error is lack of memory.
 pub fn file_names(alloc: Global, text: &[u8]) -> Result<BTreeSet<Vec<u8>>, AllocError>

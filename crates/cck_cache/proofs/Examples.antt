@@ -1,0 +1,25 @@
+-- The definitions at literal values.
+use Rattle.std.proofs.Common.{◌≡◌, Some, None, codes, true, false, refl}
+use Rattle.cck_compiler.specs.declared.compiler.CCompilerKind.TheVariants.{Clang, Gcc}
+use Rattle.cck_cache.specs.Record.{Holds}
+use Rattle.cck_cache.specs.Request.{is_plusplus, kind_of}
+
+-- the second program decides, and not the name by which the compiler is called
+clang : kind_of (codes "/usr/bin/cc:/usr/lib/llvm-14/bin/clang:/lib/libc.so.6") ≡ Clang
+clang = refl
+
+gcc : kind_of (codes "/home/a/clang:/usr/lib/gcc/x86_64-linux-gnu/12/cc1:/usr/bin/as") ≡ Gcc
+gcc = refl
+
+clang_plusplus : is_plusplus (codes "/usr/bin/c++:/usr/lib/llvm-14/bin/clang++") ≡ true
+clang_plusplus = refl
+
+one_program : is_plusplus (codes "/usr/bin/clang++") ≡ false
+one_program = refl
+
+held : Holds (λ rule. rule ≡ codes "x.o: x.c") (Some (codes "x.o: x.c"))
+held = refl
+
+-- without a dependency file nothing holds of it
+not_held : Holds (λ rule. ⊤) None → ⊥
+not_held h = h
