@@ -1,22 +1,25 @@
 #!/usr/bin/env python3
-"""Checks the table of gcc's options, in crates/cck_cache_options/src/gcc.rt, by itself and by the gcc that is
-installed. Run by hand: options.py [--missing]. Needs gcc and g++; the table was made for gcc 12 on x86-64.
+"""Checks the tables of options, in crates/cck_cache_options/src/gcc.rt and clang.rt, by themselves and by the compilers that
+are installed. Run by hand: options.py [--missing]. Needs gcc, g++ and clang; the tables were made for gcc 12 and clang 14 on
+x86-64.
 
 - Each line has a name, a form and a class that the program knows, and no two have one name and form. A line
   that is spelled wrongly has no row in the program, so that its option is unknown there.
 - An option whose value may be joined to its name is not the beginning of another option: each longer option
-  that gcc prints has a row of its own. Otherwise the program would read it as the shorter one with a value.
-- gcc accepts each option without a value that a cached call may have, for a source in C, for one in C++ and for assembler
-  code.
+  that the compiler prints has a row of its own. Otherwise the program would read it as the shorter one with a value. Of
+  clang, `-W` is not the beginning of others: each is an option of warnings.
+- The compiler accepts each option without a value that a cached call may have, for a source in C, for one in C++ and, if it
+  is gcc, for assembler code.
 - With each option that the preprocessor is given, with some values, the warning of a time macro by which the wrapper
-  knows one (-Wdate-time) is on one line, if gcc accepts the option; and the class of options with which it is not is
+  knows one (-Wdate-time) is on one line, if the compiler accepts the option; and the class of options with which it is not is
   of no other option.
 - gcc refuses `-Wno-` before an option that is none of warnings (-Wa, -Wl, -Wp,), so that it is not read as that option.
 
-With --missing it prints the options of gcc that the table does not have: calls with them are passed on. The last
-line is `options: N passed, M failed`, of rows.
+With --missing it prints the options that the tables do not have: calls with them are passed on. The last line is
+`options: N passed, M failed`, of rows.
 """
 
+import collections
 import os
 import re
 import subprocess
@@ -29,17 +32,22 @@ LISTS = (
     "common", "c", "c++", "objc", "objc++", "d", "fortran", "go", "ada", "lto", "target", "optimizers", "params",
     "warnings",
 )
-# Options that gcc takes and prints in no list.
+# Options that gcc takes and prints in no list, and those that clang prints and takes as clang-cl alone.
 HIDDEN = ("-I-",)
+CLANG_CL = ("-MTd", "-openmp", "-openmp-", "-openmp:experimental")
 # The classes of options that the preprocessor is given, and that of options that it is not given for its warnings.
 PREPROCESSED = ("text", "definition", "code", "message", "directory")
 SILENCING = "compiler-message"
 # Values that are tried with each option that has one.
 VALUES = ("0", "1", "20", "x", "always", "none")
-WARNING = "might prevent reproducible builds"
 # The suffixes of sources in C, of those in C++ and of assembler code, with a small source of each, and one with a time macro.
 SOURCE, TIMED = "int small;\n", "const char *time = __TIME__;\n"
 SUFFIXES = {".c": (SOURCE, TIMED), ".cc": (SOURCE, TIMED), ".S": (".data\n", ".ascii __TIME__\n")}
+# A compiler: its name, its table and the table's name, how it warns of a time macro, the suffixes of its inputs, and the options
+# with a joined value that are not looked at as beginnings of others.
+Compiler = collections.namedtuple("Compiler", "name file table warning suffixes whole")
+GCC = Compiler("gcc", "gcc.rt", "GCC", "might prevent reproducible builds", list(SUFFIXES), ())
+CLANG = Compiler("clang", "clang.rt", "CLANG", "time macro is not reproducible", [".c", ".cc"], ("-W",))
 # What is no option of warnings, after -W.
 NO_WARNINGS = ("a,-L", "l,-x", "p,-w", "p,-MD,small.d")
 
@@ -49,8 +57,8 @@ def text_of(name):
         return file.read()
 
 
-def table():
-    literal = re.search(r'GCC: &\[u8\] = b"\\\n(.*)";', text_of("gcc.rt"), re.S).group(1)
+def table(compiler):
+    literal = re.search(compiler.table + r': &\[u8\] = b"\\\n(.*)";', text_of(compiler.file), re.S).group(1)
     lines = literal.split("\\n\\\n")
     assert lines.pop() == "", "the last line has no end"
     return lines
@@ -72,7 +80,10 @@ def rows_of(lines, faults):
     return rows
 
 
-def printed():
+def printed(compiler):
+    if compiler is CLANG:
+        done = subprocess.run(["clang", "--autocomplete=-"], capture_output=True, text=True)
+        return {line.split("\t")[0] for line in done.stdout.splitlines()} - set(CLANG_CL)
     names = set(HIDDEN)
     for name in LISTS:
         for kind in ("", "joined,", "separate,", "undocumented,"):
@@ -85,17 +96,19 @@ def is_passed(row):
     return row[2].startswith("passed-")
 
 
-def longer(rows, names):
+def longer(compiler, rows, names):
     own = {name for name, _, _ in rows} | {name + "=" for name, form, _ in rows if form == "equals"}
+    begun = [name for name, form, _ in rows if form in ("joined", "either")]
     for row in rows:
         name, form, _ = row
-        if form in ("joined", "either") and not is_passed(row):
+        if form in ("joined", "either") and not is_passed(row) and name not in compiler.whole:
             for other in sorted(names - own):
-                if other.startswith(name) and other != name and other.split("=")[0] not in own:
+                is_own = other.split("=")[0] in own or any(other.startswith(one) and len(one) > len(name) for one in begun)
+                if other.startswith(name) and other != name and not is_own:
                     yield f"{other} would be {name} with a value"
 
 
-def refused(rows, suffix):
+def refused(compiler, rows, suffix):
     with tempfile.TemporaryDirectory() as room:
         path = os.path.join(room, "small" + suffix)
         with open(path, "w", encoding="utf-8") as file:
@@ -103,23 +116,23 @@ def refused(rows, suffix):
         for row in rows:
             if row[1] == "alone" and not is_passed(row) and not row[0].startswith("-M"):
                 done = subprocess.run(
-                    ["gcc", row[0], "-c", path, "-o", os.path.join(room, "small.o")], capture_output=True
+                    [compiler.name, row[0], "-c", path, "-o", os.path.join(room, "small.o")], capture_output=True
                 )
                 if done.returncode != 0:
-                    yield f"gcc refuses {row[0]} for *{suffix}"
+                    yield f"{compiler.name} refuses {row[0]} for *{suffix}"
 
 
-def shows_warning(words, path):
+def shows_warning(compiler, words, path):
     """Whether the preprocessor prints the warning of a time macro on one line, by the call of the wrapper. None where
     it refuses these words."""
-    call = ["gcc", *words, path, "-Wdate-time", "-Wsystem-headers", "-Wno-error", "-E", "-o", os.devnull]
+    call = [compiler.name, *words, path, "-Wdate-time", "-Wsystem-headers", "-Wno-error", "-E", "-o", os.devnull]
     done = subprocess.run(call, capture_output=True, text=True, errors="replace", env={**os.environ, "LC_ALL": "C"})
-    return None if done.returncode else WARNING in done.stderr
+    return None if done.returncode else compiler.warning in done.stderr
 
 
-def has_markers(words, path):
+def has_markers(compiler, words, path):
     """Whether the preprocessor writes line markers."""
-    done = subprocess.run(["gcc", *words, path, "-E"], capture_output=True, text=True, errors="replace")
+    done = subprocess.run([compiler.name, *words, path, "-E"], capture_output=True, text=True, errors="replace")
     return any(line.startswith("# ") for line in done.stdout.splitlines())
 
 
@@ -133,19 +146,20 @@ def words_of(row):
     return [[name + ("=" if form == "equals" else "") + value] for value in VALUES]
 
 
-def silenced(rows, suffix):
+def silenced(compiler, rows, suffix):
     with tempfile.TemporaryDirectory() as room:
         path = os.path.join(room, "time" + suffix)
         with open(path, "w", encoding="utf-8") as file:
             file.write(SUFFIXES[suffix][1])
         for row in rows:
             if row[2] in PREPROCESSED + (SILENCING,):
-                hiding = [words for words in words_of(row) if shows_warning(words, path) is False]
+                hiding = [words for words in words_of(row) if shows_warning(compiler, words, path) is False]
                 if row[2] != SILENCING:
-                    yield from (f"the warning of a time macro is not on one line with {' '.join(words)} for *{suffix}"
-                                for words in hiding)
-                elif suffix == ".c" and not hiding and all(has_markers(words, path) for words in words_of(row)):
-                    yield f"the warning of a time macro and the line markers are as they have to be with {row[0]}"
+                    yield from (f"{compiler.name}: the warning of a time macro is not on one line with {' '.join(words)} for "
+                                f"*{suffix}" for words in hiding)
+                elif suffix == ".c" and not hiding and all(has_markers(compiler, words, path) for words in words_of(row)):
+                    yield (f"{compiler.name}: the warning of a time macro and the line markers are as they have to be with "
+                           f"{row[0]}")
 
 
 def negated():
@@ -158,26 +172,32 @@ def negated():
                 yield f"gcc accepts -Wno-{ending}"
 
 
-def main():
-    faults = []
-    lines = table()
+def check(compiler, faults):
+    """Checks the table of a compiler. Returns the number of its rows."""
+    lines = table(compiler)
     rows = rows_of(lines, faults)
-    names = printed()
+    names = printed(compiler)
     if len(names) < 1000:
-        faults.append(f"gcc prints only {len(names)} options")
-    faults += longer(rows, names)
-    for suffix in SUFFIXES:
-        faults += refused(rows, suffix)
-        faults += silenced(rows, suffix)
-    faults += negated()
+        faults.append(f"{compiler.name} prints only {len(names)} options")
+    faults += longer(compiler, rows, names)
+    for suffix in compiler.suffixes:
+        faults += refused(compiler, rows, suffix)
+        faults += silenced(compiler, rows, suffix)
     known = {name for name, _, _ in rows}
     missing = sorted(name for name in names if name.rstrip("=") not in known and name.split("=")[0] not in known)
     if "--missing" in sys.argv[1:]:
         print("\n".join(missing))
-    print(f"{len(rows)} rows of {len(lines)} lines, {len(names)} options of gcc, {len(missing)} without a row")
+    print(f"{len(rows)} rows of {len(lines)} lines, {len(names)} options of {compiler.name}, {len(missing)} without a row")
+    return len(rows)
+
+
+def main():
+    faults = []
+    count = sum(check(compiler, faults) for compiler in (GCC, CLANG))
+    faults += negated()
     for fault in faults:
         print(f"FAILED: {fault}")
-    print(f"options: {max(0, len(rows) - len(faults))} passed, {len(faults)} failed")
+    print(f"options: {max(0, count - len(faults))} passed, {len(faults)} failed")
     return 1 if faults else 0
 
 

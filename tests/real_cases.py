@@ -2,7 +2,7 @@
 """A table of calls, tests/real/cases.txt: what the wrapper does in each, and that all its outputs (status, what is
 printed, files with their modes) are the plain compiler's. Where ccache is installed its outputs are compared too,
 and reported. A case that is known to escape is reported too, and does not fail. Run by hand; needs gcc and the program
-(CCK_PROGRAM, by default the one that was proved and built here). With --compiler g++ all inputs are in C++, and the
+(CCK_PROGRAM, by default the one that was proved and built here). With --compiler g++ or clang++ all inputs are in C++, and the
 outputs alone are compared: the verdicts of the table are those of gcc. With --compiler clang the cases of
 tests/real/clang.txt come before them, whose verdicts are clang's. The last line is
 `real_cases: N passed, M failed`."""
@@ -41,6 +41,13 @@ def cases(table):
                     sys.exit(f"{table}: no case, or a name that there is: {line}")
                 found.append(fields)
     return found
+
+
+def plusplus(compiler):
+    """The compiler for C++ of these words, which end in the name of a compiler."""
+    if compiler.endswith("++"):
+        return compiler
+    return compiler + "++" if compiler.endswith(CLANG) else compiler.removesuffix(COMPILER) + "g++"
 
 
 def do(items, place, variables):
@@ -95,8 +102,7 @@ class Case:
         """The call by a compiler, as a line of a shell."""
         line = unescape(self.line)
         if "$CXX" in line:
-            plusplus = compiler + "++" if compiler.endswith(CLANG) else compiler.removesuffix("gcc").removesuffix("g++") + "g++"
-            return ["sh", "-c", line.replace("$CXX", plusplus)]
+            return ["sh", "-c", line.replace("$CXX", plusplus(compiler))]
         return ["sh", "-c", line.replace("$CC", compiler) if "$CC" in line else f"{compiler} {line}"]
 
     def call(self, name, right):

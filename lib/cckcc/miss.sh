@@ -845,15 +845,18 @@ cck_reading='
         }
         return 0
     }
-    function read_search(line, size, words, at) {
+    function read_search(line, size, words, at, name) {
         if (sub(/^ignoring nonexistent directory "/, "", line)) listed[substr(line, 1, length(line) - 1)]
         if (line ~ /^ [^ ].* -cc1 /) {
             size = split(line, words, " ")
-            for (at = 1; at < size; at++)
-                if (words[at] ~ /^-(I|iquote|isystem|idirafter|c-isystem|cxx-isystem|internal-isystem|internal-externc-isystem)$/) {
-                    sub("/+$", "", words[at + 1])
-                    given[words[at + 1]]
-                }
+            for (at = 1; at < size; at++) {
+                name = ""
+                if (words[at] ~ /^-(I|iquote|idirafter|isystem|internal-(externc-)?isystem)$/) name = words[at + 1]
+                else if (words[at] == (is_c ? "-c-isystem" : "-cxx-isystem")) name = words[at + 1]
+                else if (sub(/^-I/, "", words[at])) name = words[at]
+                sub("/+$", "", name)
+                if (name != "") given[name]
+            }
         } else if (line ~ /^ [^ ]/) listed[substr(line, 2)]
     }
     function read_code(line, word) {

@@ -57,7 +57,6 @@ pub const CLANG: &[u8] = b"\
 -ffinite-math-only alone text\n\
 -ffreestanding alone text\n\
 -ffunction-sections alone code\n\
--fgnu89-inline alone text\n\
 -fhosted alone text\n\
 -fident alone code\n\
 -finline alone code\n\
@@ -234,7 +233,6 @@ pub const CLANG: &[u8] = b"\
 -fno-finite-loops alone code\n\
 -fno-finite-math-only alone text\n\
 -fno-function-sections alone code\n\
--fno-gnu89-inline alone text\n\
 -fno-ident alone code\n\
 -fno-inline alone code\n\
 -fno-inline-functions alone code\n\
@@ -458,6 +456,8 @@ pub const CLANG: &[u8] = b"\
 -isystem-after either passed-preprocessor-option\n\
 -include-pch either passed-precompiled\n\
 -lang-asm alone passed-mode\n\
+-objcmt- joined passed-mode\n\
+-object-file-name joined passed-further-output\n\
 -E alone passed-mode\n\
 -S alone passed-mode\n\
 -x either passed-mode\n\
