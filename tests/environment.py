@@ -1,10 +1,10 @@
 #!/usr/bin/env python3
-"""Checks the table of variables, tests/real/variables.txt: what gcc, its assembler and their libraries read of the
-environment, and how the cache of real files treats it. Run by hand: environment.py [--print]. Needs gcc, and objdump and
-readelf of binutils; the table was made for gcc 12 and glibc 2.36 on x86-64.
+"""Checks the table of variables, tests/real/variables.txt: what gcc, its assembler and their libraries, and clang, read of the
+environment, and how the cache of real files treats it. Run by hand: environment.py [--print]. Needs gcc, clang, and objdump
+and readelf of binutils; the table was made for gcc 12, clang 14 and glibc 2.36 on x86-64.
 
-- Each variable that a program asks for has a line. The names are those that calls of gcc ask for by `getenv`, which a
-  library logs (tests/real/getenv.c); those that the code of gcc, cc1, the assembler and their libraries gives to `getenv`;
+- Each variable that a program asks for has a line. The names are those that calls of gcc and clang ask for by `getenv`, which
+  a library logs (tests/real/getenv.c); those that the code of gcc, cc1, the assembler and their libraries gives to `getenv`;
   and those of the section "Environment Variables" of gcc's manual.
 - The names with `key` are exactly those of the lists of crates/cck_util/src/variables.rt and of
   crates/cck_cache/src/environment.rt but for two lists of the latter: PASSED has exactly the names with `passed`,
@@ -50,6 +50,10 @@ CALLS = """-c x.c | -O2 -g -Wall -Wextra -c x.c | -E x.c | -S x.c | -MD -MP -c x
 # Their names are only looked at: by what they link or print, others of the driver's variables are asked for.
 FURTHER = """-c missing-input.c | -v -c x.c | --help | -print-prog-name=as | -print-search-dirs | -flto -c x.c
     | -fcompare-debug -c x.c | -DT=__DATE__ -include h.h -c latin.c | -shared -fPIC x.c | --version""".split("|")
+# Calls of clang.
+CLANG_CALLS = """-c x.c | -O2 -g -Wall -Wextra -MD -c x.c | -E x.c | -c wrong.c | -c missing.c | -c missing-input.c
+    | -Wall -fdiagnostics-color=always -c x.c | -Ia -isystem b -c x.c | -x c++ -g -c x.c | -fno-such-option -c x.c
+    | -v -c x.c | --help | -print-search-dirs | -flto -c x.c | -c asm.c | --version""".split("|")
 VALUES = ("", "1", "-g", "/nowhere", "@root")
 
 
@@ -127,8 +131,9 @@ def build(place):
 def asked_in_calls(room, library):
     """Who asks for a name in the calls, by the name."""
     log, found = room.top + "/asked", {}
-    for call in CALLS + FURTHER:
-        room.run(["gcc", *call.split()], ".", {"LD_PRELOAD": library, "CCK_GETENV_LOG": log}, 0o022)
+    calls = [f"gcc {call}" for call in CALLS + FURTHER] + [f"clang {call}" for call in CLANG_CALLS]
+    for call in calls:
+        room.run(call.split(), ".", {"LD_PRELOAD": library, "CCK_GETENV_LOG": log}, 0o022)
     for line in lines_of(log):
         who, _, name = line.partition(" ")
         if name and name != "CCK_GETENV_LOG":
@@ -162,6 +167,8 @@ def in_code(treated):
     for name, part in re.findall(r"const (\w+): \[&(?:str|\[u8\]); \d+\] = \[(.*?)\];", "\n".join(lines), re.S):
         what = {"PASSED": "passed", "SEARCHED": "programs"}.get(name, "key")
         got[what] |= set(re.findall(r'"(\w+)"', part))
+    # A call with such a variable has no key.
+    got["key"] -= got["passed"]
     context, faults = set(), []
     for path in SCRIPTS:
         script = "\n".join(line for line in lines_of(path) if not line.lstrip().startswith("#"))

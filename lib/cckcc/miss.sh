@@ -428,14 +428,12 @@ divide() {
 
 # Runs the compiler on the compiler's words of a call, and has the assembler say what it reads, and the compiler
 # what it opens, unless its dependency file does. In clang the assembler is a part of the compiler, which says nothing of
-# it: what is assembled was judged (`judge_text`).
+# it: what is assembled is judged (`judge_text`). The dependency file of clang also has headers that it did not open again.
 compile() {
     while [ "$1" != -- ]; do shift; done
     shift
     if is_clang; then
-        echo 'object: {standard\ input}' > "$cck_scratch/assembled"
-        [ -n "$cck_dependencies" ] || set -- "$@" -MD -MF "$cck_scratch/opened"
-        "$cck_compiler" "$@"
+        CC_PRINT_HEADERS=1 CC_PRINT_HEADERS_FILE=$cck_scratch/headers "$cck_compiler" "$@"
         return
     fi
     set -- "$@" -Xassembler --MD -Xassembler "$cck_scratch/assembled"
@@ -444,6 +442,15 @@ compile() {
     else
         SUNPRO_DEPENDENCIES="$cck_scratch/opened" "$cck_compiler" "$@"
     fi
+}
+
+# Writes what clang opened, and what it assembled, as dependency files.
+write_rules() {
+    printf '%s\n' 'object: {standard\ input}' > "$cck_scratch/assembled"
+    [ ! -e "$cck_scratch/headers" ] || LC_ALL=C awk '
+        BEGIN { printf "object:" }
+        { gsub(/[ #]/, "\\\\&"); gsub(/[$]/, "$$"); printf " %s", $0 }
+        END { print "" }' "$cck_scratch/headers" > "$cck_scratch/opened"
 }
 
 # Sets `cck_place` to the directory of the store for a file of the kind $1 and the key $2.
@@ -994,7 +1001,7 @@ cck_judging='
         if ((marks || hides) && doubts != "") reason = "target-pragma"
         if (ENVIRON["cck_targets"] != "") targets = 1
         if (!asks && is_c && reason == "" && has_asked(FILENAME)) asks = 1
-        if (!is_c) asks = 0
+        if (!is_c || is_clang) asks = 0
         if (asks && ((targets && sets_targets) || silences)) reason = "other-file"
         if (tests && parallel && ENVIRON["cck_extended"] != "") reason = "header-test"
         if (stands && is_macro(FILENAME)) reason = "header-test"
@@ -1111,17 +1118,13 @@ show_all_macros() {
 }
 
 # Refuses the text where `__has_builtin` may ask for a function, unless it is the same if there is none, and none is declared.
+# In clang the answer depends on no declaration.
 judge_builtins() {
-    [ -n "$cck_is_c" ] || return
+    [ -n "$cck_is_c" ] && [ -z "$cck_is_clang" ] || return
     case $cck_doubts:$cck_preprocessed in
     *builtins*:*|*:*as_builtin*|*:*__ha*) ;;
     *) return ;;
     esac
-    # clang does not list what it declares.
-    if is_clang; then
-        cck_refused=other-file
-        return
-    fi
     preprocess other "$cck_words -fno-builtin"
     cmp -s "$cck_scratch/text" "$cck_scratch/other" || cck_refused=other-file
     declares_builtin
@@ -1293,7 +1296,7 @@ if [ -n "$cck_refused" ]; then
     exit 0
 fi
 cck_opened=$cck_scratch/opened
-[ -z "$cck_dependencies" ] || cck_opened=
+if is_clang; then write_rules; elif [ -n "$cck_dependencies" ]; then cck_opened=; fi
 cck_found=$(record --compiled="$cck_out" --messages="$cck_scratch/messages" --assembled="$cck_scratch/assembled" \
     ${cck_dependencies:+--dependencies="$cck_dependencies"} ${cck_opened:+--opened="$cck_opened"} \
     ${cck_entry_out:+--entry-out="$cck_entry_out" --packed-out="$cck_scratch/packed"} "$@")

@@ -198,11 +198,7 @@ struct ReadRules {
 // Reads the dependency files of what a compiler made.
 fn read_rules<R: Files + AllocGlobal>(rt: &R, made: &Made<'_>) -> io::Result<ReadRules> {
     let assembled = read_if_there(rt, made.assembled)?;
-    let written = if made.dependencies.is_some() {
-        made.dependencies
-    } else {
-        made.opened
-    };
+    let written = made.opened.or(made.dependencies);
     let opened = match written {
         Some(_) => Some(read_if_there(rt, written)?),
         None => None,

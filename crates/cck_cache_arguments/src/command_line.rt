@@ -211,7 +211,7 @@ static RECORD: [OptionWords<'static>; 10] = [
         Need::Never,
         "opened",
         "FILE",
-        "What the compiler wrote for SUNPRO_DEPENDENCIES, where the compilation wrote no dependency file",
+        "What the compiler opened, as a dependency file has it; without it --dependencies counts",
     ),
     (
         Need::Never,

@@ -101,8 +101,8 @@ pub struct Made<'a> {
     pub dependencies: Option<&'a str>,
     /// The path of the dependency file that the assembler wrote.
     pub assembled: Option<&'a str>,
-    /// The path of a dependency file that the compiler wrote and that was not asked for, where it wrote
-    /// no other.
+    /// The path of a list of the files that the compiler opened, as a dependency file has it. Without it
+    /// the compiler's own dependency file counts.
     pub opened: Option<&'a str>,
 }
 
