@@ -53,6 +53,8 @@ echo $status >"$place.status"
 [ ! -s "$place.messages" ] || cat "$place.messages" >&2
 exit $status
 """
+# The compiler of each name with --clang.
+CLANG = {"gcc": "clang", "cc": "clang", "g++": "clang++", "c++": "clang++"}
 CACHES = {"plain": "", "cached": WRAPPER, "ccache": "ccache"}
 # What ccache's counters say of a call.
 COUNTERS = {"direct_cache_hit": "hit", "preprocessed_cache_hit": "hit", "cache_miss": "miss"}
@@ -82,9 +84,9 @@ class Work:
         tree = room + "/top/tree"
         self.made = Tree(room + "/top")
         self.checkout = Checkout(tree, room + "/git", self.project.sources, f"{options.seed} {name}")
-        for compiler in ("gcc", "g++", "cc", "c++"):
+        for compiler in CLANG:
             with open(f"{room}/bin/{compiler}", "w", encoding="utf-8") as file:
-                file.write(LAUNCHER.replace("@compiler", shutil.which(compiler)))
+                file.write(LAUNCHER.replace("@compiler", shutil.which(CLANG[compiler] if options.clang else compiler)))
             os.chmod(f"{room}/bin/{compiler}", 0o755)
         self.variables = {"PATH": f"{room}/bin:{os.environ['PATH']}", "HOME": room + "/home", "TMPDIR": room + "/tmp",
                           "LC_ALL": "C", "CCK_PROGRAM": PROGRAM, "CCK_STORE": room + "/store", "CCACHE_DIR": room + "/ccache",
@@ -217,6 +219,7 @@ def main():
     parser.add_argument("names", nargs="*", metavar="NAME", help="projects, by default all: " + ", ".join(PROJECTS))
     parser.add_argument("--builds", type=int, default=50, help="builds of each project")
     parser.add_argument("--ccache", type=int, default=10, help="how many of the first ones are also made by ccache")
+    parser.add_argument("--clang", action="store_true", help="build by clang, not by gcc")
     parser.add_argument("--seed", default="1", help="what decides the steps")
     parser.add_argument("--jobs", type=int, default=2, help="compilers at once")
     parser.add_argument("--keep", metavar="DIRECTORY", help="keep all of a project that has a difference there")
