@@ -920,7 +920,7 @@ cck_judging='
     }
     is_clang && !is_read++ { for (name in given) if (!(name in listed)) reason = "other-file" }
     is_clang && (nesting > 0 || waits || /asm/) && !/^#/ { read_code($0) }
-    is_clang && /R"/ && !/^#/ { has_raw = 1 }
+    is_clang && /(^|[^A-Za-z0-9_])(u8|u|U|L)?R"/ && !/^#/ { has_raw = 1 }
     index($0, "R\"") && goes_on($0) { marks = 1 }
     /target/ && /(^|[^A-Za-z0-9_$])(__)?target(_clones)?(__)?[ \t]*([(]|$)/ { sets_targets = 1 }
     !/^[ \t]*#/ { next }
