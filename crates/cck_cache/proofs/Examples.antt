@@ -1,5 +1,5 @@
 -- The definitions at literal values.
-use Rattle.std.proofs.Common.{◌≡◌, Some, None, codes, true, false, refl}
+use Rattle.std.proofs.Common.{◌≡◌, Some, codes, true, false, refl}
 use Rattle.cck_compiler.specs.declared.compiler.CCompilerKind.TheVariants.{Clang, Gcc}
 use Rattle.cck_cache.specs.Record.{Holds}
 use Rattle.cck_cache.specs.Request.{is_plusplus, kind_of}
@@ -19,7 +19,3 @@ one_program = refl
 
 held : Holds (λ rule. rule ≡ codes "x.o: x.c") (Some (codes "x.o: x.c"))
 held = refl
-
--- without a dependency file nothing holds of it
-not_held : Holds (λ rule. ⊤) None → ⊥
-not_held h = h
