@@ -853,9 +853,13 @@ cck_reading='
         return 0
     }
     function read_search(line, size, words, at, name) {
+        if (line ~ /^#include .* search starts here:$/) is_list = 1
+        if (line == "End of search list.") is_list = 0
+        if (is_list && line ~ /^ /) listed[substr(line, 2)]
         if (sub(/^ignoring nonexistent directory "/, "", line)) listed[substr(line, 1, length(line) - 1)]
         if (line ~ /^ [^ ].* -cc1 /) {
             size = split(line, words, " ")
+            is_given = 1
             for (at = 1; at < size; at++) {
                 name = ""
                 if (words[at] ~ /^-(I|iquote|idirafter|isystem|internal-(externc-)?isystem)$/) name = words[at + 1]
@@ -864,7 +868,7 @@ cck_reading='
                 sub("/+$", "", name)
                 if (name != "") given[name]
             }
-        } else if (line ~ /^ [^ ]/) listed[substr(line, 2)]
+        }
     }
     function read_code(line, word) {
         while (match(line, /"([^"\\]|\\.)*"|\047([^\047\\]|\\.)*\047|[A-Za-z_$][A-Za-z0-9_$]*|[^ \t]/)) {
@@ -918,7 +922,10 @@ cck_judging='
         if (is_clang) read_search($0)
         next
     }
-    is_clang && !is_read++ { for (name in given) if (!(name in listed)) reason = "other-file" }
+    is_clang && !is_read++ {
+        if (!is_given) reason = "other-file"
+        for (name in given) if (!(name in listed)) reason = "other-file"
+    }
     is_clang && (nesting > 0 || waits || /asm/) && !/^#/ { read_code($0) }
     is_clang && /(^|[^A-Za-z0-9_])(u8|u|U|L)?R"/ && !/^#/ { has_raw = 1 }
     index($0, "R\"") && goes_on($0) { marks = 1 }
