@@ -428,12 +428,22 @@ divide() {
 
 # Runs the compiler on the compiler's words of a call, and has the assembler say what it reads, and the compiler
 # what it opens, unless its dependency file does. In clang the assembler is a part of the compiler, which says nothing of
-# it: what is assembled is judged (`judge_text`). The dependency file of clang also has headers that it did not open again.
+# it: what is assembled is judged (`judge_text`). The dependency file of clang also has headers that it did not open again, so
+# that it lists those that it entered, where that does not add system headers to the file.
+lists_headers() {
+    is_clang || return 1
+    case " $* " in
+    *' -MMD '*) return 1 ;;
+    esac
+}
 compile() {
     while [ "$1" != -- ]; do shift; done
     shift
-    if is_clang; then
+    if lists_headers "$@"; then
         CC_PRINT_HEADERS=1 CC_PRINT_HEADERS_FILE=$cck_scratch/headers "$cck_compiler" "$@"
+        return
+    elif is_clang; then
+        "$cck_compiler" "$@"
         return
     fi
     set -- "$@" -Xassembler --MD -Xassembler "$cck_scratch/assembled"
@@ -1303,7 +1313,8 @@ if [ -n "$cck_refused" ]; then
     exit 0
 fi
 cck_opened=$cck_scratch/opened
-if is_clang; then write_rules; elif [ -n "$cck_dependencies" ]; then cck_opened=; fi
+! is_clang || write_rules
+if [ -n "$cck_dependencies" ] && ! lists_headers "$@"; then cck_opened=; fi
 cck_found=$(record --compiled="$cck_out" --messages="$cck_scratch/messages" --assembled="$cck_scratch/assembled" \
     ${cck_dependencies:+--dependencies="$cck_dependencies"} ${cck_opened:+--opened="$cck_opened"} \
     ${cck_entry_out:+--entry-out="$cck_entry_out" --packed-out="$cck_scratch/packed"} "$@")
