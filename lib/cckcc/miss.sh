@@ -918,8 +918,8 @@ cck_reading='
 # a macro that the text does not show. What is pasted after `> struct` is the name of a class, unless `struct` is a macro,
 # or a parameter of that definition.
 #
-# clang gives directories that are one the first of their names, so that each name of a directory has to be among those that
-# it lists, or of which it says that they are none (`read_search`). It enters a file for the macros that it defines itself and
+# clang gives directories that are one the first of their names: of each other name it is written, as gcc does, that it is left
+# out (`read_search`). It enters a file for the macros that it defines itself and
 # one for those of the arguments, and then returns to the input. It names headers of gcc by way of its own directory. It
 # assembles by itself, so that a text is refused whose code for the assembler has other directives than some that read no
 # file: its strings are put together, and no macro, alternative or operand of it makes the name of a directive (`read_code`,
@@ -934,7 +934,8 @@ cck_judging='
     }
     is_clang && !is_read++ {
         if (!is_given) reason = "other-file"
-        for (name in given) if (!(name in listed)) reason = "other-file"
+        for (name in given)
+            if (!(name in listed)) print "ignoring duplicate directory \"" name "\"" > (ENVIRON["cck_scratch"] "/left-out")
     }
     is_clang && (nesting > 0 || waits || /asm/) && !/^#/ { read_code($0) }
     is_clang && /(^|[^A-Za-z0-9_])(u8|u|U|L)?R"/ && !/^#/ { has_raw = 1 }
@@ -1034,8 +1035,17 @@ cck_judging='
 # shows those that are used; and `end`. The compiler expands macros in pragmas that the preprocessor leaves as they are,
 # pragmas that save macros hide uses, and warnings may name others.
 judge_text() {
+    true > "$cck_scratch/left-out"
     cck_own=$cck_own cck_extended=$cck_extended cck_targets=$cck_targets cck_is_c=$cck_is_c cck_is_assembler=$cck_is_assembler \
-        cck_is_clang=$cck_is_clang LC_ALL=C awk "$cck_reading$cck_judging" "$cck_scratch/text-search" is_text=1 "$cck_scratch/text" < /dev/null
+        cck_is_clang=$cck_is_clang cck_scratch=$cck_scratch LC_ALL=C awk "$cck_reading$cck_judging" "$cck_scratch/text-search" \
+        is_text=1 "$cck_scratch/text" < /dev/null
+}
+
+# Adds to the list of directories what `judge_text` found to be left out.
+add_left_out() {
+    [ -s "$cck_scratch/left-out" ] || return 0
+    cat "$cck_scratch/left-out" "$cck_scratch/text-search" > "$cck_scratch/joined" &&
+        mv "$cck_scratch/joined" "$cck_scratch/text-search" || cck_refused=other-file
 }
 
 # Sets what the arguments say beside the text: `cck_extended` if the call has OpenMP or OpenACC; `cck_targets` if an argument
@@ -1189,6 +1199,7 @@ write_text() {
         cck_words='-imacros "$cck_store/empty.h"'
         preprocess text "$cck_words"
     fi
+    add_left_out
     judge_builtins
     judge_targets
     printf '%s\n' "$cck_refused" "$cck_macros" > "$cck_scratch/refused"
