@@ -37,7 +37,8 @@ def look(words):
     """The program's call for a hit of the wrapper."""
     lists = os.path.join(os.environ["CCK_STORE"], "compilers")
     with open(os.path.join(lists, os.listdir(lists)[0]), encoding="utf-8") as file:
-        programs = file.read().splitlines()[-1]
+        # The eighth line has the programs (docs/FORMATS.md).
+        programs = file.read().splitlines()[7]
     return [os.environ["CCK_PROGRAM"], "look", os.environ["CCK_STORE"], f"--compiler={programs}", f"--directory={os.getcwd()}",
             "--", *words[2:]]
 
