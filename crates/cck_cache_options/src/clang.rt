@@ -396,6 +396,9 @@ pub const CLANG: &[u8] = b"\
 -W alone message\n\
 -W joined message\n\
 -Wa, joined passed-assembler-option\n\
+-Wa,--noexecstack alone code\n\
+-Wa,--fatal-warnings alone code\n\
+-Wa,--no-warn alone code\n\
 -Wl, joined passed-inputs\n\
 -Wp, joined passed-preprocessor-option\n\
 -Qunused-arguments alone message\n\
