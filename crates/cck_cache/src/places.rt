@@ -1,19 +1,24 @@
 //! Whether what a compilation writes may be put at its paths.
 use crate::call::CallPaths;
 use std::fs;
-use std::fs::Metadata;
+use std::fs::{Metadata, OpenOptions};
 use std::io::ErrorKind;
 use std::os::unix::fs::MetadataExt;
 use std::rt::Files;
 
-// Whether a file may be put at a path: there is nothing, or a regular file that is not the input and has
-// at least so many bytes. A compiler writes through a link and to a device, and does not write to a
-// directory or over its input.
+// Whether a file can be opened for writing. clang makes its object anew, but not in the place of one that can't.
+fn is_writable<R: Files>(rt: &R, path: &str) -> bool {
+    OpenOptions::new().write(true).open(rt, path).is_ok()
+}
+
+// Whether a file may be put at a path: there is nothing, or a regular file that is not the input, has at
+// least so many bytes and may be written. A compiler writes through a link and to a device, and does not
+// write to a directory or over its input.
 fn is_free<R: Files>(rt: &R, input: &Metadata, path: &str, least: u64) -> bool {
     match fs::symlink_metadata(rt, path) {
         Ok(found) => {
             let is_input = found.dev() == input.dev() && found.ino() == input.ino();
-            found.is_file() && !is_input && found.len() >= least
+            found.is_file() && !is_input && found.len() >= least && is_writable(rt, path)
         }
         Err(error) => error.kind() == ErrorKind::NotFound,
     }

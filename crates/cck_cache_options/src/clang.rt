@@ -11,7 +11,6 @@ pub const CLANG: &[u8] = b"\
 -D either definition\n\
 -U either definition\n\
 -std equals text\n\
--stdlib equals text\n\
 -MF either dependency-file\n\
 -MT either target\n\
 -MQ either target\n\
@@ -109,7 +108,6 @@ pub const CLANG: &[u8] = b"\
 -gno-pubnames alone code\n\
 -gpubnames alone code\n\
 -gstrict-dwarf alone code\n\
--m32 alone text\n\
 -m3dnow alone text\n\
 -m3dnowa alone text\n\
 -m64 alone text\n\
@@ -459,6 +457,7 @@ pub const CLANG: &[u8] = b"\
 -isystem-after either passed-preprocessor-option\n\
 -include-pch either passed-precompiled\n\
 -lang-asm alone passed-mode\n\
+-object alone passed-mode\n\
 -objcmt- joined passed-mode\n\
 -object-file-name joined passed-further-output\n\
 -E alone passed-mode\n\
