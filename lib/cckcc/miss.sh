@@ -185,8 +185,8 @@ is_known() {
 }
 
 # The same of clang 14, which compiles and assembles in one process. By the name under which it is called it is a compiler
-# for C or for C++, and `cck_proper` the program of that name beside it. It reads no configuration file, and no installation
-# of gcc but one in a directory for these (`find_installations`).
+# for C or for C++, and `cck_proper` the program of that name beside it. It reads no configuration file, and takes headers of
+# an installation of gcc, of which a file counts as a program (`find_installations`).
 knows_clang() {
     case ${cck_located##*/} in
     clang|clang-14|cc) cck_proper=${cck_driver%/*}/clang ;;
@@ -198,6 +198,10 @@ knows_clang() {
     14|14.*) ;;
     *) return 1 ;;
     esac
+    cck_installation=$(LC_ALL=C "$cck_compiler" -v -E -x c /dev/null 2>&1 < /dev/null | sed -n 's/^Selected GCC installation: //p')
+    cck_installation=$(readlink -f "$cck_installation/crtbegin.o")
+    [ -f "$cck_installation" ] || return 1
+    for cck_next in paste sort xargs; do command -v "$cck_next" > /dev/null || return 1; done
     [ "$cck_proper" -ef "$cck_driver" ] && head -c 4 "$cck_driver" | grep -q ELF || return 1
     true > "$cck_tried/empty.c"
     case $(LC_ALL=C "$cck_compiler" '-###' -c "$cck_tried/empty.c" -o "$cck_tried/empty.o" 2>&1) in
@@ -380,9 +384,10 @@ knows_compiler() {
 # Asks the compiler for the programs, and keeps them. Where a tool fails the compiler is unknown to this call alone. A program
 # that is killed says nothing, so what is not known is asked for once more.
 ask_compiler() {
-    cck_programs=-
+    cck_programs=- cck_installation=
     if knows_compiler || knows_compiler; then
         cck_programs=$cck_located:$cck_proper${cck_assembler:+:$cck_assembler}${cck_plusplus:+:$cck_plusplus}
+        cck_programs=$cck_programs${cck_installation:+:$cck_installation}
         add_loaded || { cck_programs=-; return; }
     fi
     name_list
@@ -680,11 +685,11 @@ has_proper() {
 # links lead to: a header that the compiler names so is not recorded. It also writes each directive that includes a header
 # (-dI), since it may pass over a copy of a header that was read, and the definitions of macros, since the key of an object
 # has no -D and -U. In C++ it warns of what follows a literal and is a macro when it is read, and not a suffix, which shows in
-# no other way. What is on standard input is for the compiler.
+# no other way. clang also lists the headers that it passes over (-MD). What is on standard input is for the compiler.
 preprocess() {
     cck_warnings='-fno-canonical-system-headers -Wno-pedantic'
     ! is_cplusplus || cck_warnings='-fno-canonical-system-headers -Wliteral-suffix'
-    ! is_clang || cck_warnings=
+    ! is_clang || cck_warnings='-MD -MT listed -MF "$cck_scratch/$1-listed"'
     eval "LC_ALL=C \"\$cck_compiler\" $cck_preprocessed" \
         '-Wdate-time -Wsystem-headers -Wno-error' "$cck_warnings $cck_macros $2" \
         '-dI -E -v -o "$cck_scratch/$1"' < /dev/null 2> "$cck_scratch/$1-search" || true > "$cck_scratch/failed"
@@ -870,6 +875,9 @@ cck_reading='
         if (line ~ /^ [^ ].* -cc1 /) {
             size = split(line, words, " ")
             is_given = 1
+            if (line ~ /[\t\r\f\013]/) reason = "other-file"
+            has_system = line ~ / -internal-externc-isystem /
+            has_plusplus = has_system && !is_c && line !~ / -nostdinc[+][+] /
             for (at = 1; at < size; at++) {
                 name = ""
                 if (words[at] ~ /^-(I|iquote|idirafter|isystem|internal-(externc-)?isystem)$/) name = words[at + 1]
@@ -877,11 +885,34 @@ cck_reading='
                 else if (sub(/^-I/, "", words[at])) name = words[at]
                 sub("/+$", "", name)
                 if (name != "") given[name]
+                if (name ~ /[/]c[+][+][/][0-9]+$/) plusplus++
             }
         }
     }
+    function read_rule(line, size, words, at) {
+        sub(/ *\\$/, "", line)
+        sub(/^listed: */, "", line)
+        if (line ~ /[\\$]/) reason = "other-file"
+        size = split(line, words, " ")
+        for (at = 1; at <= size; at++) passed[place_of(words[at])]
+    }
+    function place_of(name, size, words, at, place) {
+        if (name !~ /^[/]/) name = ENVIRON["cck_place"] "/" name
+        size = split(name, words, "/")
+        for (at = 1; at <= size; at++) {
+            if (words[at] == "..") sub("/[^/]*$", "", place)
+            else if (words[at] != "" && words[at] != ".") place = place "/" words[at]
+        }
+        return place
+    }
+    function write_places(name, place) {
+        for (name in projects) entered[place_of(name)]
+        for (name in others) entered[place_of(name)]
+        for (place in entered) print place > (ENVIRON["cck_scratch"] "/entered")
+        for (place in passed) if (!(place in entered)) reason = "other-file"
+    }
     function read_code(line, word) {
-        while (match(line, /"([^"\\]|\\.)*"|\047([^\047\\]|\\.)*\047|[A-Za-z_$][A-Za-z0-9_$]*|[^ \t]/)) {
+        while (match(line, /"([^"\\]|\\.)*"|\047([^\047\\]|\\.)*\047|[0-9]([A-Za-z0-9_.]|\047[A-Za-z0-9_])*|[A-Za-z_$][A-Za-z0-9_$]*|[^ \t]/)) {
             word = substr(line, RSTART, RLENGTH)
             line = substr(line, RSTART + RLENGTH)
             if (nesting > 0) {
@@ -896,6 +927,8 @@ cck_reading='
     }
     function judge_code(code, word) {
         if (code ~ /\\[^nt"]|[{|]|\.$/) reason = "assembler-include"
+        gsub(/\\n/, ";", code)
+        gsub(/\\t/, " ", code)
         gsub(/\.(push)?section[ \t]+[A-Za-z0-9_.$-]+/, " ", code)
         while (match(code, /\.[A-Za-z0-9_$%\\]*/)) {
             word = substr(code, RSTART + 1, RLENGTH - 1)
@@ -924,8 +957,9 @@ cck_reading='
 # assembles by itself, so that a text is refused whose code for the assembler has other directives than some that read no
 # file: its strings are put together, and no macro, alternative or operand of it makes the name of a directive (`read_code`,
 # `judge_code`). A pragma takes effect when it preprocesses too, so that one that may turn off the warning of a time macro counts
-# as one.
+# as one. So does another one than a few, since the compiler may expand macros in it.
 cck_judging='
+    is_rule { read_rule($0); next }
     !is_text {
         if (/warning: /) warns = 1
         if (/might prevent reproducible builds|time macro is not reproducible/) shows_time = 1
@@ -933,12 +967,14 @@ cck_judging='
         next
     }
     is_clang && !is_read++ {
-        if (!is_given) reason = "other-file"
+        if (!is_given || (has_plusplus && plusplus < 2)) reason = "other-file"
+        if (has_system && !("/usr/include/x86_64-linux-gnu" in given)) reason = "other-file"
         for (name in given)
             if (!(name in listed)) print "ignoring duplicate directory \"" name "\"" > (ENVIRON["cck_scratch"] "/left-out")
     }
     is_clang && (nesting > 0 || waits || /asm/) && !/^#/ { read_code($0) }
     is_clang && /(^|[^A-Za-z0-9_])(u8|u|U|L)?R"/ && !/^#/ { has_raw = 1 }
+    is_clang && has_raw && /^#/ && /asm/ { has_code = 1 }
     index($0, "R\"") && goes_on($0) { marks = 1 }
     /target/ && /(^|[^A-Za-z0-9_$])(__)?target(_clones)?(__)?[ \t]*([(]|$)/ { sets_targets = 1 }
     !/^[ \t]*#/ { next }
@@ -990,6 +1026,9 @@ cck_judging='
         }
     }
     !/^[ \t]*#[ \t]*pragma/ { next }
+    is_clang && !/pragma[ \t]+(((GCC|clang)[ \t]+(diagnostic|system_header|poison|visibility)|weak|message|STDC|(push|pop)_macro)[ \t(]|pack[ \t]*[(][a-z0-9_, \t]*[)])/ {
+        shows_time = 1
+    }
     is_clang && /diagnostic/ && (!/diagnostic[ \t]+(push|pop|[a-z]+[ \t]+"-W[A-Za-z0-9+=_-]+")[ \t]*$/ || /-Wdate-time|-Weverything/) {
         shows_time = 1
     }
@@ -1024,6 +1063,7 @@ cck_judging='
         if (tests && parallel && ENVIRON["cck_extended"] != "") reason = "header-test"
         if (stands && is_macro(FILENAME)) reason = "header-test"
         if (nesting > 0 || (has_raw && has_code)) reason = "assembler-include"
+        if (is_clang) write_places()
         print shows_time ? "time-macro" : reason
         print doubts (asks ? " builtins" : "")
         print (warns || has_pragmas || saves ? "all" : "")
@@ -1037,8 +1077,26 @@ cck_judging='
 judge_text() {
     true > "$cck_scratch/left-out"
     cck_own=$cck_own cck_extended=$cck_extended cck_targets=$cck_targets cck_is_c=$cck_is_c cck_is_assembler=$cck_is_assembler \
-        cck_is_clang=$cck_is_clang cck_scratch=$cck_scratch LC_ALL=C awk "$cck_reading$cck_judging" "$cck_scratch/text-search" \
-        is_text=1 "$cck_scratch/text" < /dev/null
+        cck_is_clang=$cck_is_clang cck_scratch=$cck_scratch cck_place=$(pwd -P) LC_ALL=C awk "$cck_reading$cck_judging" \
+        ${cck_is_clang:+is_rule=1 "$cck_scratch/text-listed" is_rule=0} "$cck_scratch/text-search" is_text=1 "$cck_scratch/text" \
+        < /dev/null
+}
+
+# Refuses a text of clang of which two files are one, or may become one: clang knows a file by its inode, passes it over by that,
+# and names it as it was called last. So no two have one inode or the same contents, and none is reached by a link. The list of
+# files is sorted, and without `.` and `..`.
+judge_files() {
+    sort "$cck_scratch/entered" > "$cck_scratch/names"
+    xargs -d '\n' readlink -f -- < "$cck_scratch/names" | cmp -s - "$cck_scratch/names" || cck_refused=other-file
+    xargs -d '\n' stat -c '%d:%i %s' -- < "$cck_scratch/names" > "$cck_scratch/sizes" || cck_refused=other-file
+    paste -d ' ' "$cck_scratch/sizes" "$cck_scratch/names" | LC_ALL=C awk '
+        $1 in inodes { exit 1 }
+        { inodes[$1]; place = $0; sub(/^[^ ]* [^ ]* /, "", place) }
+        $2 in first && $2 > 0 { if (first[$2] != "") print first[$2]; first[$2] = ""; print place; next }
+        { first[$2] = place }' > "$cck_scratch/equal" || cck_refused=other-file
+    [ -s "$cck_scratch/equal" ] || return 0
+    xargs -d '\n' sha256sum -- < "$cck_scratch/equal" |
+        LC_ALL=C awk '$1 in sums { same = 1 } { sums[$1] } END { exit same || !NR }' || cck_refused=other-file
 }
 
 # Adds to the list of directories what `judge_text` found to be left out.
@@ -1200,6 +1258,7 @@ write_text() {
         preprocess text "$cck_words"
     fi
     add_left_out
+    ! is_clang || judge_files
     judge_builtins
     judge_targets
     printf '%s\n' "$cck_refused" "$cck_macros" > "$cck_scratch/refused"
