@@ -228,6 +228,16 @@ def compare_unread(room, files):
           and last == b"verified %d files, removed 0" % len(files) and error.startswith(b"error: 2 files "), done)
 
 
+def damage_digest(room, store):
+    """Exchanges the file of a compiler's digest for that of another name: the next call makes it anew."""
+    path, = (store / "digests").iterdir()
+    kept = path.read_bytes()
+    check("a digest has its name", kept[:64].isalnum() and kept[64:] == b" " + path.name.encode(), kept)
+    path.write_bytes(b"0" * 64 + b" " + b"1" * 64)
+    done = run([WRAPPER, "gcc", "-Wall", "-Ii", "-c", "p.c"], cwd=room)
+    check("a digest of another name is not read", done.returncode == 0 and path.read_bytes() == kept, done)
+
+
 def main():
     with tempfile.TemporaryDirectory() as room:
         room = pathlib.Path(room)
@@ -237,6 +247,7 @@ def main():
         compare_listings(store, files)
         compare_damages(store, files)
         compare_unread(room, files)
+        damage_digest(room, store)
     failed = outcomes.count(False)
     print(f"store_files: {outcomes.count(True)} passed, {failed} failed")
     return 1 if failed else 0
