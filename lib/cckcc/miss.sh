@@ -228,7 +228,7 @@ has_plain_libraries() {
 # they are not known.
 add_loaded() {
     [ ! -e /etc/ld.so.preload ] || cck_programs=$cck_programs:/etc/ld.so.preload
-    for cck_next in "$cck_driver" "$cck_proper" $cck_assembler $cck_plusplus; do
+    for cck_next in "$cck_driver" "$cck_proper" ${cck_assembler:+"$cck_assembler"} $cck_plusplus; do
         cck_loaded=$(LC_ALL=C ldd "$cck_next" 2>&1) || case $cck_loaded in
         *'not a dynamic executable'*) cck_loaded= ;;
         *) return 1 ;;
@@ -282,7 +282,7 @@ add_searched() {
 }
 
 # Adds the directories in which clang looks for installations of gcc, whose headers and libraries it takes, and those above
-# them; and the one of the files by which it knows the system.
+# them; and the files by which it knows the system, with their directory.
 find_installations() {
     for cck_top in "${cck_located%/*}/.." "${cck_driver%/*}/.." /usr; do
         for cck_next in "$cck_top" "$cck_top"/lib "$cck_top"/lib32 "$cck_top"/lib64 "$cck_top"/lib*/gcc "$cck_top"/lib*/gcc-cross \
@@ -431,16 +431,18 @@ divide() {
     ! is_clang || cck_macros=-dD
 }
 
-# Runs the compiler on the compiler's words of a call, and has the assembler say what it reads, and the compiler
-# what it opens, unless its dependency file does. In clang the assembler is a part of the compiler, which says nothing of
-# it: what is assembled is judged (`judge_text`). The dependency file of clang also has headers that it did not open again, so
-# that it lists those that it entered, where that does not add system headers to the file.
+# Whether clang, called with these words, is to list the headers that it enters: its dependency file also has those that it did
+# not open again. With -MMD the list would add system headers to that file.
 lists_headers() {
     is_clang || return 1
     case " $* " in
     *' -MMD '*) return 1 ;;
     esac
 }
+
+# Runs the compiler on the compiler's words of a call, and has the assembler say what it reads, and the compiler
+# what it opens, unless its dependency file does. In clang the assembler is a part of the compiler, which says nothing of
+# it: what is assembled is judged (`judge_text`).
 compile() {
     while [ "$1" != -- ]; do shift; done
     shift
@@ -952,12 +954,13 @@ cck_reading='
 # or a parameter of that definition.
 #
 # clang gives directories that are one the first of their names: of each other name it is written, as gcc does, that it is left
-# out (`read_search`). It enters a file for the macros that it defines itself and
-# one for those of the arguments, and then returns to the input. It names headers of gcc by way of its own directory. It
-# assembles by itself, so that a text is refused whose code for the assembler has other directives than some that read no
-# file: its strings are put together, and no macro, alternative or operand of it makes the name of a directive (`read_code`,
-# `judge_code`). A pragma takes effect when it preprocesses too, so that one that may turn off the warning of a time macro counts
-# as one. So does another one than a few, since the compiler may expand macros in it.
+# out (`read_search`). A file that it lists and did not enter was passed over by another name, or is asked for by a test
+# (`read_rule`, `write_places`). It enters a file for the macros that it defines itself and one for those of the arguments, and
+# then returns to the input. It names headers of gcc by way of its own directory. It assembles by itself, so that a text is
+# refused whose code for the assembler has other directives than some that read no file: its strings are put together, and no
+# macro, alternative or operand of it makes the name of a directive (`read_code`, `judge_code`). A pragma takes effect when it
+# preprocesses too, so that one that may turn off the warning of a time macro counts as one. So does another one than a few,
+# since the compiler may expand macros in it.
 cck_judging='
     is_rule { read_rule($0); next }
     !is_text {
