@@ -1293,6 +1293,23 @@ take_all_macros() {
     fi
 }
 
+# Holds the object that is there, so that no other file takes its place on the disk.
+hold_object() {
+    cck_held=
+    [ -f "$cck_out" ] || return
+    cck_held=1
+    { command exec 7< "$cck_out"; } 2>/dev/null || cck_held=unread
+}
+
+# Whether the compiler made an object: each makes it anew, so one that was there, and still is, is of another call.
+made_object() {
+    case $cck_held in
+    '') ;;
+    1) ! [ "$cck_out" -ef /proc/self/fd/7 ] ;;
+    *) return 1 ;;
+    esac
+}
+
 # Whether the object has no code for another device: sections for one have random names.
 has_plain_names() {
     case " $* " in
@@ -1347,7 +1364,8 @@ else
     write_text "$@" 2>/dev/null &
     cck_text=$!
 fi
-{ compile "$@" > "$cck_scratch/output" 2> "$cck_scratch/messages"; } 2>/dev/null
+hold_object
+{ compile "$@" > "$cck_scratch/output" 2> "$cck_scratch/messages" 7<&-; } 2>/dev/null
 cck_status=$?
 # Where there was none the compiler runs again, as the call came: messages may be lost.
 if ! has_room; then wait; cck_found='no scratch'; pass_on "$@"; fi
@@ -1364,6 +1382,7 @@ if [ -s "$cck_scratch/messages" ] && [ "$cck_status:$cck_refused:$cck_macros" = 
 fi
 # What an assembler prints there is not kept, nor a message that names a temporary file.
 [ ! -s "$cck_scratch/output" ] || cck_refused=output
+made_object || cck_refused=output
 if [ -s "$cck_scratch/messages" ] && ! lacks '/cc[A-Za-z0-9]\{6\}\.s' "$cck_scratch/messages"; then
     cck_refused=temporary-name
 fi
