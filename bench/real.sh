@@ -1,9 +1,9 @@
 #!/bin/sh
 # Times builds of a project's C files at -O2 -g: by gcc, by the wrapper and by ccache in direct mode, with an
-# empty store and with all hits, and what one hit takes. PROJECT is lua, the default, zstd, freetype or libxml2.
-# JOBS is the number of jobs, 1 by default, and ROUNDS the number of rounds, 3 by default: a round has each
-# build once, with all hits three times, and the least time of each counts. Needs gcc, make, Python 3 and
-# Debian's package archive; ccache for its lines, and strace and valgrind for theirs.
+# empty store and with all hits, and what one hit takes. PROJECT is lua, the default, zstd, freetype, libxml2,
+# mbedtls, libuv or jemalloc. JOBS is the number of jobs, 1 by default, and ROUNDS the number of rounds, 3 by
+# default: a round has each build once, with all hits three times, and the least time of each counts. Needs gcc,
+# make, Python 3 and Debian's package archive; ccache for its lines, and strace and valgrind for theirs.
 set -eu
 top=$(cd "$(dirname "$0")/.." && pwd)
 . "$top/tests/real/common.sh"
@@ -22,6 +22,21 @@ freetype)
     files='src/base/*.c src/cff/*.c src/psaux/*.c src/sfnt/*.c src/truetype/*.c src/type1/*.c'
     ;;
 libxml2) package=libxml2 directory=. flags="$flags -DHAVE_CONFIG_H -D_REENTRANT -I. -Iinclude" ;;
+mbedtls) package=mbedtls directory=library flags="$flags -I../include" ;;
+libuv)
+    package=libuv1 directory=. flags="$flags -Iinclude -Isrc -D_GNU_SOURCE"
+    files='src/*.c'
+    for name in async core dl epoll fs getaddrinfo getnameinfo linux-core linux-inotify linux-syscalls loop loop-watcher \
+        pipe poll process procfs-exepath proctitle random-devurandom random-getrandom random-sysctl-linux signal stream \
+        tcp thread tty udp; do
+        files="$files src/unix/$name.c"
+    done
+    ;;
+jemalloc)
+    package=jemalloc directory=. flags="$flags -Iinclude -D_GNU_SOURCE -D_REENTRANT"
+    # (zone.c is for another system)
+    files='src/[!z]*.c'
+    ;;
 *)
     echo "bench/real.sh: no project $PROJECT" >&2
     exit 2
@@ -33,7 +48,14 @@ CCACHE_DIR=$room/ccache
 export CCACHE_DIR
 unpack "$package" project
 cd "$room/project/$directory"
-[ "$PROJECT" != libxml2 ] || ./configure --without-python --without-lzma --without-zlib >"$room/configured" 2>&1
+case $PROJECT in
+libxml2) ./configure --without-python --without-lzma --without-zlib >"$room/configured" 2>&1 ;;
+jemalloc)
+    ./configure >"$room/configured" 2>&1
+    # (its makefile makes this one, of the objects of a build)
+    true >include/jemalloc/internal/private_namespace.h
+    ;;
+esac
 with_ccache=
 if command -v ccache >/dev/null; then with_ccache=1; fi
 
