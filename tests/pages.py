@@ -6,6 +6,7 @@
   as a directory. A path with a placeholder, as in `crates/NAME`, is not looked at, nor is one in a directory `out`.
 - Each name and each option between backticks stands in a file of the repository that is no page, or in the name of one.
   Pages about other programs or about what was are not looked at, nor are numbers and placeholders.
+- All pages together have no more than 160 KiB.
 
 It prints what is not there, and the sum of the pages' bytes. The last line is `pages: N passed, M failed`."""
 import pathlib
@@ -13,6 +14,7 @@ import re
 import subprocess
 
 TOP = pathlib.Path(__file__).resolve().parent.parent
+MOST_BYTES = 160 << 10
 BLOCK = re.compile(r"^```.*?^```$", re.M | re.S)
 SPAN = re.compile(r"`[^`]+`")
 LINK = re.compile(r"\[([^\]]*)\]\(([^)\s]+)\)")
@@ -90,7 +92,9 @@ def main():
             failed += not is_there
             if not is_there:
                 print(f"{page.relative_to(TOP)}: {name} is not there")
-    print(f"{len(pages())} pages, {size} bytes")
+    print(f"{len(pages())} pages, {size} bytes of {MOST_BYTES}")
+    passed += size <= MOST_BYTES
+    failed += size > MOST_BYTES
     print(f"pages: {passed} passed, {failed} failed")
     raise SystemExit(bool(failed))
 
