@@ -29,6 +29,7 @@ from reference.times import NANOS  # noqa: E402
 
 BLOCK = 10000
 OF_ONE_ENTRY = 40
+ENTRIES_ALONE = 1000
 SECONDS = 300
 
 BOUNDARIES = [2**8, 2**16, 2**31, 2**32, 2**63, 2**64]
@@ -260,6 +261,30 @@ def run_block(job):
     return block, sum(map(len, texts)), counts, different
 
 
+def run_alone(job):
+    """Texts that the program damages and judges by itself: how many are entries, how many are not, and on how many of
+    them its readers differ."""
+    program, seed, number, count = job
+    maker = TextMaker(random.Random(f"{seed} alone {number}"))
+    maker.next_entry()
+    data = len(maker.text).to_bytes(4, "little") + maker.text
+    words = [program, str(count), str(maker.random.getrandbits(60) + 1)]
+    done = subprocess.run(words, input=data, stdout=subprocess.PIPE, check=False)
+    if done.returncode != 0:
+        return 0, 0, count
+    return tuple(map(int, done.stdout.split()))
+
+
+def judge_alone(chosen):
+    """Has the program judge so many texts by itself, of some entries, and returns on how many its readers differ."""
+    count = -(-chosen.alone // ENTRIES_ALONE)
+    with multiprocessing.Pool(chosen.jobs) as pool:
+        jobs = ((chosen.program, chosen.seed, number, count) for number in range(ENTRIES_ALONE if count else 0))
+        totals = [sum(column) for column in zip((0, 0, 0), *pool.imap_unordered(run_alone, jobs))]
+    print("by itself: {} entries, {} damaged, {} differ".format(*totals))
+    return totals[2]
+
+
 def main():
     """Runs the blocks and prints what differs, the counts and the rate."""
     parser = argparse.ArgumentParser(prog="entries.sh")
@@ -267,6 +292,7 @@ def main():
     parser.add_argument("--count", type=int, default=1000000, help="texts, in blocks of 10000")
     parser.add_argument("--from", type=int, default=0, dest="first", help="the first block")
     parser.add_argument("--jobs", type=int, default=2)
+    parser.add_argument("--alone", type=int, default=0, help="texts that the program damages and judges by itself")
     parser.add_argument("program")
     chosen = parser.parse_args()
     blocks = range(chosen.first, chosen.first - (-chosen.count // BLOCK))
@@ -287,7 +313,8 @@ def main():
     print(f"seed {chosen.seed}, blocks {blocks.start} to {blocks.stop - 1}: {total} texts, {size} bytes")
     print("results: " + ", ".join(f"{counts[name]} {name}" for name in sorted(counts)))
     print(f"{total / seconds:.0f} texts a second")
-    print(f"entries: {total - differences} passed, {differences} failed")
+    differences += judge_alone(chosen)
+    print(f"entries: {total + chosen.alone - differences} passed, {differences} failed")
     return 1 if differences else 0
 
 

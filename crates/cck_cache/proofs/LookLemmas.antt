@@ -1,5 +1,5 @@
 -- what a look-up finds
-use Rattle.std.proofs.Common.{◌∙◌, ℕ, Option, Some, String, string_bytes, IfSome, sym, ap, subst}
+use Rattle.std.proofs.Common.{◌≡◌, ◌∙◌, [], ℕ, Bool, List, Option, Some, String, false, refl, string_bytes, true, IfSome, sym, ap, subst}
 use Rattle.std.specs.declared.alloc.Global.{Global}
 use Rattle.cck_cache.specs.Look.{IsFoundFor, IsKeptObject, IsLookResult, IsLooked, IsNameOf, IsPlace}
 use Rattle.cck_cache.specs.Request.{HasPreprocessorKey}
@@ -10,6 +10,22 @@ use Rattle.cck_cache.specs.declared.look.Looked.{Looked}
 use Rattle.cck_cache.specs.declared.look.Looked.TheVariants.{Object, Missed}
 use Rattle.cck_cache.specs.declared.look.LookUp.{LookUp}
 use Rattle.cck_cache_arguments.specs.declared.task.Look.{Look}
+use Rattle.cck_cache_files.specs.PathStatuses.{AreAsRecorded}
+use Rattle.cck_cache_rules.specs.PathStatus.{Status, statuses_of}
+use Rattle.cck_cache_rules.specs.declared.path_status.PathStatus.{PathStatus}
+use Rattle.cck_entry.specs.Statuses.{Statuses}
+use Rattle.cck_hasher.proofs.Elements.{none_in}
+
+-- what is known by no status is nothing, so it has the times of any list
+recorded_by_none : (recorded : List Status) (known : Statuses) → AreAsRecorded [] known → AreAsRecorded recorded known
+recorded_by_none recorded known are p m is = absurd (none_in (are p m is).status (are p m is).is_one)
+
+-- what is known by the statuses of a file, or by none where all is read, has the times of the file's
+pub recorded_by : (reads_all : Bool) (recorded given : List PathStatus) (known : Statuses) → (reads_all ≡ true → given ≡ []) → (reads_all ≡ false → given ≡ recorded)
+    → AreAsRecorded (statuses_of given) known → AreAsRecorded (statuses_of recorded) known
+recorded_by true recorded given known none all are =
+    recorded_by_none (statuses_of recorded) known (subst (λ (xs : List PathStatus). AreAsRecorded (statuses_of xs) known) (none refl) are)
+recorded_by false recorded given known none all are = subst (λ (xs : List PathStatus). AreAsRecorded (statuses_of xs) known) (all refl) are
 
 -- an object file that was found under the name of a match
 pub looked_kept : (lookup : LookUp) (place : Option ℕ) (name : String Global) (looked : Looked) → IsPlace place → IsNameOf lookup name

@@ -16,8 +16,10 @@ use Rattle.cck_cache.specs.declared.look.Looked.TheVariants.{Object, Missed}
 use Rattle.cck_cache.specs.declared.look.Kept.{Kept}
 use Rattle.cck_cache.specs.declared.look.Kept.TheVariants.{Nothing, Damaged, Entry as KeptEntry}
 use Rattle.cck_cache_rules.specs.Files.{EntryFields}
+use Rattle.cck_cache_rules.specs.PathStatus.{Status}
 use Rattle.cck_cache_rules.specs.PathTest.{Test}
 use Rattle.cck_cache_files.specs.EntryNames.{entry_files}
+use Rattle.cck_cache_files.specs.PathStatuses.{AreAsRecorded}
 use Rattle.cck_cache_files.specs.Snapshot.{ArePut, IsPart}
 use Rattle.cck_cache_arguments.specs.declared.request.Request.{Request}
 use Rattle.cck_cache_arguments.specs.declared.task.Look.{Look}
@@ -45,29 +47,32 @@ keeps (Some server) = server.keeps
 
 -- The object key that is returned from an entry whose text is held under a preprocessor key, over files that have grown by those that the entry names.
 -- Whatever a preprocessor prints, there is a call that asks a store that holds this text, with these statuses of included files, and returns the key.
--- Where all files are read there are no statuses.
-pub record IsMatch (reads_all : Bool) (asked : SnapshotRequest) (input : FileMap) (key bytes : Bytes) (entry : Entry) (object : Bytes) : Type 0 where
+-- Each status has the times that are recorded of its path, and where all files are read there are none. That the system says the same now no clause
+-- can say.
+pub record IsMatch (reads_all : Bool) (asked : SnapshotRequest) (input : FileMap) (key bytes : Bytes) (recorded : List Status) (entry : Entry) (object : Bytes) : Type 0 where
   pub files : FileMap
   pub grown : ArePut (IsIncluded entry) input files
   pub kept : IsPart input files
   pub statuses : Statuses
+  pub are_recorded : AreAsRecorded recorded statuses
   pub read : reads_all ≡ true → statuses ≡ empty
   pub found : (prints : Prints)
       → (t : State) × AsksWith (world_for sha256 prints asked) map_store statuses (call_for Default files asked) NoFault (one_pair key bytes) (Keyed object false) t
 
--- an entry of these bytes has a key that is returned so, and the object of the key has this name, by the recorded digest of the input and these tests
-pub record IsNamedMatch (reads_all : Bool) (request : Request) (asked : SnapshotRequest) (input : FileMap) (key : PreprocessorKey) (bytes : Bytes) (tests : List Test) (name : String Global) : Type 0 where
+-- An entry of these bytes has a key that is returned so, by statuses that are recorded. The object of the key has this name, by the recorded digest of
+-- the input and these tests.
+pub record IsNamedMatch (reads_all : Bool) (request : Request) (asked : SnapshotRequest) (input : FileMap) (key : PreprocessorKey) (bytes : Bytes) (recorded : List Status) (tests : List Test) (name : String Global) : Type 0 where
   pub entry : Entry
   pub is_entry : EntryText entry bytes
   pub object : Bytes
-  pub matched : IsMatch reads_all asked input (string_bytes key.text) bytes entry object
+  pub matched : IsMatch reads_all asked input (string_bytes key.text) bytes recorded entry object
   pub is_name : IsName request (string_bytes key.input_digest) entry tests object (string_bytes name)
 
 -- the same of an entry file of this key
 abbrev pub IsNameOfKey : Bool → Request → SnapshotRequest → FileMap → String Global → String Global → Type 0
 IsNameOfKey reads_all request asked input key name =
     (file : EntryFields) × (file.preprocessor_key ≡ string_bytes key)
-    × ((own : PreprocessorKey) × (own.text ≡ key) × IsKeyOver asked input own × IsNamedMatch reads_all request asked input own file.entry file.tests name)
+    × ((own : PreprocessorKey) × (own.text ≡ key) × IsKeyOver asked input own × IsNamedMatch reads_all request asked input own file.entry file.statuses file.tests name)
 
 -- what a store has of a preprocessor key: an entry is of this key
 abbrev pub IsKeyEntry : Bytes → Kept → Type 0

@@ -1,8 +1,9 @@
 //! Looks for an object in the store.
-ghost use Rattle.std.specs.Prelude.{◌≡◌, ◌<◌, ◌⊎◌, [], IfOk, IfSome, None, Some, string_bytes, true};
+ghost use Rattle.std.specs.Prelude.{◌≡◌, ◌<◌, ◌⊎◌, [], IfOk, IfSome, None, Some, false, string_bytes, true};
 ghost use Rattle.cck_cache.specs.Input.{IsCalm};
 ghost use Rattle.cck_cache.specs.Look.{IsFoundFor, IsKeptObject, IsKeyEntry, IsLookResult, IsLooked, IsMissed, IsNamedMatch, IsNameOf, IsLookUp, keeps};
 ghost use Rattle.cck_cache.specs.Request.{IsKeyOver, IsRequest};
+ghost use Rattle.cck_cache_rules.specs.PathStatus.{statuses_of};
 ghost use Rattle.cck_cache_rules.specs.PathTest.{tests_of};
 
 use crate::changed::{Changed, changed_in, may_match};
@@ -139,8 +140,9 @@ pub fn read_entry<R: Files + AllocGlobal>(
 }
 
 // The statuses by which files are not read and absent paths not tested: none, where all is read.
-fn statuses_of(file: &EntryFile, reads_all: bool) -> &[PathStatus]
-    ensures { reads_all ≡ true → result.now ≡ [] }
+fn trusted_statuses(file: &EntryFile, reads_all: bool) -> &[PathStatus]
+    ensures none { reads_all ≡ true → result.now ≡ [] }
+    ensures all { reads_all ≡ false → result.now ≡ file.now.statuses.items }
 {
     if reads_all { &[] } else { &file.statuses }
 }
@@ -157,9 +159,9 @@ fn matching_name<R: Files + AllocGlobal>(
 ) -> Result<Option<String>>
     ensures { IfOk result (λ found. IsCalm files.old → IsRequest environment.entry.now request.now environment.entry.now.now [] asked.now
         → IsKeyOver asked.now files.old.files key.now
-        → IfSome found (IsNamedMatch environment.entry.now.reads_all request.now asked.now files.old.files key.now file.now.entry.items (tests_of file.now.tests.items))) }
+        → IfSome found (IsNamedMatch environment.entry.now.reads_all request.now asked.now files.old.files key.now file.now.entry.items (statuses_of file.now.statuses.items) (tests_of file.now.tests.items))) }
 {
-    let known = unchanged_statuses(rt, statuses_of(file, environment.reads_all))?;
+    let known = unchanged_statuses(rt, trusted_statuses(file, environment.reads_all))?;
     if first_failing(rt, &known, &file.tests)?.is_some() {
         return Ok(None);
     }

@@ -9,6 +9,7 @@ use Rattle.sha2.specs.Sha256.{sha256}
 use Rattle.cck_cache.specs.Input.{NoFault}
 use Rattle.cck_cache.specs.Naming.{IsName}
 use Rattle.cck_cache.proofs.InputLemmas.{calm_stays, without_fault}
+use Rattle.cck_cache.proofs.LookLemmas.{recorded_by}
 use Rattle.cck_cache.proofs.RequestLemmas.{key_of_part}
 use Rattle.cck_cache.proofs.look.matching_name.Goals as goal
 
@@ -40,7 +41,9 @@ returns g c calm is_request own =
         grown = grown.put;
         kept = grown.kept calm.quiet;
         statuses = statuses;
-        read = λ reads. c.in_ok-known.ensures.none (c.statuses_of.ensures reads);
+        are_recorded = recorded_by environment.reads_all c.args.file.now.statuses.items c.trusted_statuses.result.now statuses
+          c.trusted_statuses.ensures.none c.trusted_statuses.ensures.all c.in_ok-known.ensures.recorded;
+        read = λ reads. c.in_ok-known.ensures.none (c.trusted_statuses.ensures.none reads);
         found = found (string_bytes key.text) bytes (key_of_part environment request environment.now [] asked input.files before.files key is_request own (grown.kept calm.quiet)) is_entry;
       };
       is_name = subst (λ (i : Bytes). IsName request i entry tests object name) c.as_str-input.ensures.value
