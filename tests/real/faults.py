@@ -1,4 +1,4 @@
-"""Kills recordings, damages stores, changes files between two steps and while they are read, makes two builds at
+"""Kills recordings, damages stores, changes files between two steps and while they are read, makes four builds at
 once and fills a device: never a wrong object or a wrong dependency file. It also tests what `prune` removes. Run by
 tests/real_faults.sh, in an empty directory, with the program's path in CCK_PROGRAM and the wrapper in
 PATH."""
@@ -12,7 +12,7 @@ import time
 PROGRAM = os.environ["CCK_PROGRAM"]
 ROOM = os.getcwd()
 STORE = ROOM + "/store"
-SEED = int(os.environ.get("SEED", "1"))
+SEED, BUILDS = int(os.environ.get("SEED", "1")), 4
 chance = random.Random(SEED)
 faults = []
 
@@ -306,7 +306,7 @@ def swapped_while_read():
 
 
 def at_once(number):
-    """Two builds at once that share a store, and the keys."""
+    """Four builds at once that share a store, and the keys."""
     shutil.rmtree(STORE, ignore_errors=True)
     names = []
     for place in range(number):
@@ -317,15 +317,15 @@ def at_once(number):
     wrong = 0
     for _ in range(2):
         running = [subprocess.Popen(["cckcc", "gcc", *words_of(f"{name}.c"), "-o", f"{name}.{build}.o"], env=environment)
-                   for name in names for build in (1, 2)]
+                   for name in names for build in range(BUILDS)]
         for process in running:
             process.wait()
         for name in names:
             compile_(f"{name}.c", "plain")
-            wrong += sum(made(f"{name}.{build}") != made("plain") for build in (1, 2))
-    print(f"two builds at once: {4 * number} objects, {wrong} wrong")
+            wrong += sum(made(f"{name}.{build}") != made("plain") for build in range(BUILDS))
+    print(f"{BUILDS} builds at once: {2 * BUILDS * number} objects, {wrong} wrong")
     if wrong:
-        faults.append("two builds at once")
+        faults.append("builds at once")
 
 
 def full():

@@ -42,7 +42,7 @@ returns g c calm is_request own =
         kept = grown.kept calm.quiet;
         statuses = statuses;
         are_recorded = recorded_by environment.reads_all c.args.file.now.statuses.items c.trusted_statuses.result.now statuses
-          c.trusted_statuses.ensures.none c.trusted_statuses.ensures.all c.in_ok-known.ensures.recorded;
+            c.trusted_statuses.ensures.none c.trusted_statuses.ensures.all c.in_ok-known.ensures.recorded;
         read = λ reads. c.in_ok-known.ensures.none (c.trusted_statuses.ensures.none reads);
         found = found (string_bytes key.text) bytes (key_of_part environment request environment.now [] asked input.files before.files key is_request own (grown.kept calm.quiet)) is_entry;
       };
