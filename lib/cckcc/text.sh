@@ -235,10 +235,22 @@ cck_reading='
         for (place in entered) print place > (ENVIRON["cck_scratch"] "/entered")
         for (place in passed) if (!(place in entered)) reason = "other-file"
     }
-    function read_code(line, word) {
-        while (match(line, /"([^"\\]|\\.)*"|\047([^\047\\]|\\.)*\047|[0-9]([A-Za-z0-9_.]|\047[A-Za-z0-9_])*|[A-Za-z_$][A-Za-z0-9_$]*|[^ \t]/)) {
-            word = substr(line, RSTART, RLENGTH)
-            line = substr(line, RSTART + RLENGTH)
+    function next_word(line) {
+        if (!match(line, /"([^"\\]|\\.)*"|\047([^\047\\]|\\.)*\047|[0-9]([A-Za-z0-9_.]|\047[A-Za-z0-9_])*|[A-Za-z_$][A-Za-z0-9_$]*|[^ \t]/)) return 0
+        word = substr(line, RSTART, RLENGTH)
+        rest = substr(line, RSTART + RLENGTH)
+        return 1
+    }
+    function begins_raw(line) {
+        while (next_word(line)) {
+            line = rest
+            if (word ~ /^(u8|u|U|L)?R$/ && line ~ /^"/) return 1
+        }
+        return 0
+    }
+    function read_code(line) {
+        while (next_word(line)) {
+            line = rest
             if (nesting > 0) {
                 if (word == "\"") reason = "assembler-include"
                 if (word == "(") nesting++
@@ -298,7 +310,7 @@ cck_judging='
             if (!(name in listed)) print "ignoring duplicate directory \"" name "\"" > (ENVIRON["cck_scratch"] "/left-out")
     }
     is_clang && (nesting > 0 || waits || /asm/) && !/^#/ { read_code($0) }
-    is_clang && /(^|[^A-Za-z0-9_])(u8|u|U|L)?R"/ && !/^#/ { has_raw = 1 }
+    is_clang && /(^|[^A-Za-z0-9_])(u8|u|U|L)?R"/ && !/^#/ && begins_raw($0) { has_raw = 1 }
     is_clang && has_raw && /^#/ && /asm/ { has_code = 1 }
     index($0, "R\"") && goes_on($0) { marks = 1 }
     /target/ && /(^|[^A-Za-z0-9_$])(__)?target(_clones)?(__)?[ \t]*([(]|$)/ { sets_targets = 1 }

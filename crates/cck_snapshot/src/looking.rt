@@ -19,7 +19,8 @@ use std::alloc::{AllocError, Global};
 /// A file that is missing from both counts as changed.
 ///
 /// Let a store hold the entry under the preprocessor key of the request. Whatever a preprocessor prints, a
-/// hit is a step of a run, in which the store was asked with these statuses. The preprocessor key may be
+/// hit is a call that asks the store with these statuses. It is a step of a run if they are those of the
+/// files and times are honest ([`step_is_step`](crate::laws::step_is_step)). The preprocessor key may be
 /// that over a part of the snapshot.
 ///
 /// The only error is lack of memory. A fault of the snapshot can also cause a miss.
