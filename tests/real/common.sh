@@ -36,7 +36,7 @@ download() {
     set -- -o Dir::Etc::sourcelist="$room/apt/sources.list" -o Dir::Etc::sourceparts=- \
         -o Dir::State::lists="$room/apt/lists"
     apt-get "$@" update >"$room/apt.log" 2>&1
-    (cd "$room/sources" && apt-get "$@" source --download-only $packages >>"$room/apt.log" 2>&1)
+    (cd "$room/sources" && apt-get "$@" source --download-only --tar-only $packages >>"$room/apt.log" 2>&1)
     CCK_SOURCES=$room/sources
 }
 
