@@ -133,11 +133,11 @@ fn leads_there<R: Files + AllocGlobal>(
     ensures errors { IsOkUnless result UtilError.Memory }
 {
     let (_, state) = states.first_other(rt, joined)?;
-    // With -g gcc names the working directory too.
     if !state.is_there() {
         return Ok(false);
     }
-    if joined == path {
+    // With -g gcc names the working directory too, with two slashes at the end.
+    if joined.strip_suffix(b"//").unwrap_or(joined) == path {
         return Ok(true);
     }
     if states.has_other(rt, joined)? {

@@ -6,3 +6,7 @@ returns-then-branch-clause-kept g c = KeepsStates-trans c.args.states.now c.firs
 
 pub returns-clause-kept : goal.returns-clause-kept
 returns-clause-kept g c = KeepsStates-trans c.args.states.now c.first_other.new.self c.has_other.new.self c.first_other.ensures.kept c.has_other.ensures.kept
+
+pub returns-in_err-has_other-clause-kept : goal.returns-in_err-has_other-clause-kept
+returns-in_err-has_other-clause-kept g c =
+    KeepsStates-trans c.args.states.now c.first_other.new.self c.has_other.new.self c.first_other.ensures.kept c.has_other.ensures.kept
