@@ -20,6 +20,7 @@ use Rattle.cck_cache_rules.specs.PathStatus.{Status}
 use Rattle.cck_cache_rules.specs.PathTest.{Test}
 use Rattle.cck_cache_files.specs.EntryNames.{entry_files}
 use Rattle.cck_cache_files.specs.PathStatuses.{AreAsRecorded}
+use Rattle.cck_cache_files.specs.PathTests.{IsFirstFailing}
 use Rattle.cck_cache_files.specs.Snapshot.{ArePut, IsPart}
 use Rattle.cck_cache_arguments.specs.declared.request.Request.{Request}
 use Rattle.cck_cache_arguments.specs.declared.task.Look.{Look}
@@ -59,9 +60,10 @@ pub record IsMatch (reads_all : Bool) (asked : SnapshotRequest) (input : FileMap
   pub found : (prints : Prints)
       → (t : State) × AsksWith (world_for sha256 prints asked) map_store statuses (call_for Default files asked) NoFault (one_pair key bytes) (Keyed object false) t
 
--- An entry of these bytes has a key that is returned so, by statuses that are recorded. The object of the key has this name, by the recorded digest of
--- the input and these tests.
+-- An entry of these bytes has a key that is returned so, by statuses that are recorded, after all of these tests held. The object of the key has this
+-- name, by the recorded digest of the input and the tests.
 pub record IsNamedMatch (reads_all : Bool) (request : Request) (asked : SnapshotRequest) (input : FileMap) (key : PreprocessorKey) (bytes : Bytes) (recorded : List Status) (tests : List Test) (name : String Global) : Type 0 where
+  pub held : IsFirstFailing tests None
   pub entry : Entry
   pub is_entry : EntryText entry bytes
   pub object : Bytes

@@ -162,9 +162,9 @@ fn matching_name<R: Files + AllocGlobal>(
         → IfSome found (IsNamedMatch environment.entry.now.reads_all request.now asked.now files.old.files key.now file.now.entry.items (statuses_of file.now.statuses.items) (tests_of file.now.tests.items))) }
 {
     let known = unchanged_statuses(rt, trusted_statuses(file, environment.reads_all))?;
-    if first_failing(rt, &known, &file.tests)?.is_some() {
+    let None = first_failing(rt, &known, &file.tests)? else {
         return Ok(None);
-    }
+    };
     let alloc = rt.alloc();
     let Some(entry) = entry_view(alloc, &file.entry)? else {
         return Ok(None);

@@ -1,7 +1,8 @@
-use Rattle.std.proofs.Common.{[], ℕ, List, Some, string_bytes, ap, subst}
+use Rattle.std.proofs.Common.{[], ℕ, List, None, Some, string_bytes, ap, subst}
 use Rattle.std.specs.Option.{option_map}
 use Rattle.cck_files.specs.Calls.{Rose}
 use Rattle.cck_path.specs.Bytes.{Bytes}
+use Rattle.cck_cache_files.specs.PathTests.{IsFirstFailing}
 use Rattle.cck_cache_rules.specs.PathTest.{Test, tests_of}
 use Rattle.cck_entry.specs.Entry.{EntryText}
 use Rattle.cck_snapshot.specs.Snapshot.{IsLookedUp}
@@ -33,6 +34,7 @@ returns g c calm is_request own =
     (calm_stays input before grown.calm calm) c.in_ok-found.ensures.found in
     let found : IsLookedUp sha256 before.files asked NoFault statuses entry (Some object) = rw c.in-Some-found.is at looked in
     record {
+      held = subst (λ (t : List Test). IsFirstFailing t None) (ap tests_of c.deref.ensures.value) (rw c.in-None.is at c.in_ok-first_failing.ensures);
       entry = entry;
       is_entry = is_entry;
       object = object;
