@@ -292,7 +292,8 @@ cck_reading='
 # (`read_rule`, `write_places`). It enters a file for the macros that it defines itself and one for those of the arguments, and
 # then returns to the input. It names headers of gcc by way of its own directory. It assembles by itself, so that a text is
 # refused whose code for the assembler has other directives than some that read no file: its strings are put together, and no
-# macro, alternative or operand of it makes the name of a directive (`read_code`, `judge_code`). A pragma takes effect when it
+# macro, alternative or operand of it makes the name of a directive (`read_code`, `judge_code`). A raw string hides what is
+# code, so that a text with one (`begins_raw`) and such code is refused. A pragma takes effect when it
 # preprocesses too, so that one that may turn off the warning of a time macro counts as one. So does another one than a few,
 # since the compiler may expand macros in it.
 cck_judging='
