@@ -460,12 +460,22 @@ lacks() {
     [ $? -eq 1 ]
 }
 
-# Holds the object that is there, so that no other file takes its place on the disk.
+# Holds the object that is there, so that no other file takes its place on the disk. A descriptor of the caller stays: then
+# the object is not held, and nothing is recorded.
 hold_object() {
     cck_held=
     [ -f "$cck_out" ] || return
-    cck_held=1
-    { command exec 7< "$cck_out"; } 2>/dev/null || cck_held=unread
+    cck_held=unread
+    [ ! -e /proc/self/fd/7 ] || return
+    { command exec 7< "$cck_out"; } 2>/dev/null && cck_held=1
+}
+
+# Runs the compiler without the descriptor of what is held.
+compile_anew() {
+    case $cck_held in
+    1) compile "$@" 7<&- ;;
+    *) compile "$@" ;;
+    esac
 }
 
 # Whether the compiler made an object: each makes it anew, so one that was there, and still is, is of another call.
@@ -533,7 +543,7 @@ else
     cck_text=$!
 fi
 hold_object
-{ compile "$@" > "$cck_scratch/output" 2> "$cck_scratch/messages" 7<&-; } 2>/dev/null
+{ compile_anew "$@" > "$cck_scratch/output" 2> "$cck_scratch/messages"; } 2>/dev/null
 cck_status=$?
 # Where there was none the compiler runs again, as the call came: messages may be lost.
 if ! has_room; then wait; cck_found='no scratch'; pass_on "$@"; fi
