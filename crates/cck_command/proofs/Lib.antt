@@ -1,3 +1,4 @@
+pub mod EqualityLemmas
 pub mod ExecutableLemmas
 pub mod ExpandLemmas
 pub mod FileLemmas
@@ -5,3 +6,6 @@ pub mod FollowedLemmas
 pub mod InputLemmas
 pub mod LineLemmas
 pub mod MadeLemmas
+pub mod OptionLemmas
+pub mod ScriptLemmas
+pub mod WordLemmas

@@ -13,7 +13,7 @@ use Rattle.cck_files.specs.FileState.{FileState, IsQuiet, fault_count}
 use Rattle.cck_script.specs.Calls.{script_calls}
 use Rattle.cck_script.specs.Calls as script
 use Rattle.cck_script.specs.Lines.{Line}
-use Rattle.cck_script.specs.Script.{basedirs_of, zone_of}
+use Rattle.cck_command.specs.Script.{basedirs_of, zone_of}
 use Rattle.cck_script.specs.Surroundings.{AreAfter, ArePlacesOf}
 use Rattle.cck_script.specs.declared.surroundings.Surroundings.{Surroundings}
 use Rattle.cck_include.specs.Config.{activated}

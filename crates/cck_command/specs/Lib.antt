@@ -8,4 +8,9 @@ pub mod Printing
 pub mod Program
 pub mod Request
 pub mod Run
+pub mod Script
+pub mod ScriptLines
+pub mod ScriptNumbers
+pub mod ScriptSeen
+pub mod ScriptWords
 pub mod Status

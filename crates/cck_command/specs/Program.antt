@@ -3,7 +3,7 @@ use Rattle.std.specs.Prelude.{◌≡◌, ℕ, List, [], ◌∷◌, ◌++◌, ◌
 use Rattle.std.specs.Io.KnownBytes.{Appends}
 use Rattle.std.specs.declared.option.Option.{Option}
 use Rattle.cck_path.specs.Bytes.{Bytes}
-use Rattle.cck_script.specs.Script.{commands_of, wrong_line}
+use Rattle.cck_command.specs.Script.{commands_of, wrong_line}
 use Rattle.cck_util.specs.Key.{plain_params, object_key}
 use Rattle.cck_command.specs.Printing.{AppendsBeginning}
 use Rattle.cck_command.specs.Request.{IsUsageError, KeyCommand, run_words, words_of}

@@ -15,7 +15,7 @@ use Rattle.cck_script.specs.Calls.{script_calls}
 use Rattle.cck_script.specs.Surroundings.{AreFiles, executable_path, variables, working_directory}
 use Rattle.cck_script.specs.Calls as script
 use Rattle.cck_script.specs.Lines.{Line}
-use Rattle.cck_script.specs.Script.{basedirs_of, fail_of, forget_of, zone_of}
+use Rattle.cck_command.specs.Script.{basedirs_of, fail_of, forget_of, zone_of}
 use Rattle.cck_include.specs.Config.{activated}
 use Rattle.cck_hasher.specs.Call.{CallResult, Done, Keyed, ReturnsError, calls_of, Why, Memory, Extra, ExtraFault, Input, InputFault, Store, Damaged, NoText, TextFault, Marker}
 use Rattle.c_cache_keys.specs.Laws.{AllReturnStored, IsTransparent}

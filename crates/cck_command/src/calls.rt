@@ -6,18 +6,19 @@ ghost use Rattle.cck_files.specs.ArmedCalls.{IsUnarmed};
 ghost use Rattle.cck_path.specs.Bytes.{variables_of};
 ghost use Rattle.cck_script.specs.Calls.{ScriptCallValue, script_calls, call_after, call_of_command};
 ghost use Rattle.cck_script.specs.Lines.{Line};
-ghost use Rattle.cck_script.specs.Seen.{line_of, lines_of};
+ghost use Rattle.cck_command.specs.ScriptSeen.{lines_of};
+ghost use Rattle.cck_script.specs.Seen.{line_of};
 ghost use Rattle.cck_script.specs.Surroundings.{AreAfter, AreFiles, variables};
 ghost use Rattle.cck_command.specs.Run.{control_of};
 ghost use Rattle.cck_command.specs.Made.{IsReady, IsRunCompiler};
 
 use crate::failed::Failed;
 use crate::mini_compiler::MiniCompiler;
+use crate::script::Script;
 use c_cache_keys::{CCompiler, CacheControl, Call, CompilerArguments};
 use cck_files::MapFiles;
 use cck_script::{
-    Command, EXECUTABLE, Script, ScriptCall, Surroundings, WORKING_DIRECTORY, copy_variables,
-    first_files,
+    Command, EXECUTABLE, ScriptCall, Surroundings, WORKING_DIRECTORY, copy_variables, first_files,
 };
 use cck_util::HashState;
 use std::alloc::Global;

@@ -7,7 +7,7 @@
 //! | words | what is read | what is written |
 //! |---|---|---|
 //! | `key DIGEST LANGUAGE [ARG..]` | a preprocessed text | the key of the object that a compiler with this digest makes of the text |
-//! | `run` | a script ([`cck_script`]) | one line for each call, with its key or its error; or `cck: line N` of the wrong line that comes first |
+//! | `run` | a script ([`Script`], whose lines are those of [`cck_script`]) | one line for each call, with its key or its error; or `cck: line N` of the wrong line that comes first |
 //! | any others | nothing | the usage line |
 //!
 //! A key is computed by [`HashKeyParams::compute`](cck_util::HashKeyParams::compute) from the
@@ -50,6 +50,7 @@ mod program;
 mod request;
 mod result_lines;
 mod run;
+mod script;
 mod status;
 
 pub use calls::{compiler_of, ready_calls};
@@ -60,4 +61,5 @@ pub use printing::print;
 pub use program::{engine, refuse};
 pub use result_lines::add_result_lines;
 pub use run::{store_of, zone_at};
+pub use script::{RunOptions, Script, ScriptError};
 pub use status::Status;

@@ -1,9 +1,9 @@
 -- the errors of a listing
 use Rattle.std.proofs.Common.{◌≡◌, ◌⊎◌, Result, Ok, Err, OnOk, OnErr, Option, Some, None, IfErr, IfSome, refl, sym, subst, inl, inr}
 use Rattle.cck_path.specs.Bytes.{Bytes}
-use Rattle.cck_script.specs.Script.{IsScriptError}
-use Rattle.cck_script.specs.declared.error.ScriptError.{ScriptError}
-use Rattle.cck_script.specs.declared.error.ScriptError.TheVariants as script
+use Rattle.cck_command.specs.Script.{IsScriptError}
+use Rattle.cck_command.specs.declared.script.error.ScriptError.{ScriptError}
+use Rattle.cck_command.specs.declared.script.error.ScriptError.TheVariants as script
 use Rattle.cck_explain_listing.specs.Bytes as entry
 use Rattle.cck_explain_listing.specs.declared.entry_text.EntryError.{EntryError}
 use Rattle.cck_explain_listing.specs.declared.entry_text.EntryError.TheVariants as variants

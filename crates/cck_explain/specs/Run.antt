@@ -7,7 +7,7 @@ use Rattle.cck_explain_listing.specs.Bytes as entry
 use Rattle.cck_explain_listing.specs.MarkerListing.{AreMarkerLines}
 use Rattle.cck_explain.specs.ScriptListing as script
 use Rattle.cck_path.specs.Bytes.{Bytes}
-use Rattle.cck_script.specs.Script.{commands_of, wrong_line}
+use Rattle.cck_command.specs.Script.{commands_of, wrong_line}
 use Rattle.clap.specs.declared.error.kind.ErrorKind.{ErrorKind}
 use Rattle.clap.specs.declared.error.kind.ErrorKind.TheVariants.{DisplayHelp, DisplayVersion, OutOfMemory}
 use Rattle.cck_explain.specs.Key.{key_listing}

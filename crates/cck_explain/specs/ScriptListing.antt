@@ -8,7 +8,7 @@ use Rattle.cck_command.specs.Run.{IsRequested, Ran, result_line, run_world}
 use Rattle.cck_path.specs.Bytes.{Bytes}
 use Rattle.cck_script.specs.Calls.{ScriptCallValue, script_calls}
 use Rattle.cck_script.specs.Lines.{Line}
-use Rattle.cck_script.specs.Script.{zone_of}
+use Rattle.cck_command.specs.Script.{zone_of}
 use Rattle.cck_util.specs.MapStore.{State, map_store}
 use Rattle.cck_util.specs.Store.{counted}
 use Rattle.jiff.specs.Types.{Offset}

@@ -8,9 +8,9 @@ use Rattle.cck_explain_listing.specs.declared.entry_text.EntryError.TheVariants 
 use Rattle.cck_digest.specs.declared.error.UtilError.{UtilError}
 use Rattle.cck_digest.specs.declared.error.UtilError.TheVariants as util
 use Rattle.cck_path.specs.Bytes.{Bytes}
-use Rattle.cck_script.specs.Script.{wrong_line}
-use Rattle.cck_script.specs.declared.error.ScriptError.{ScriptError}
-use Rattle.cck_script.specs.declared.error.ScriptError.TheVariants as script
+use Rattle.cck_command.specs.Script.{wrong_line}
+use Rattle.cck_command.specs.declared.script.error.ScriptError.{ScriptError}
+use Rattle.cck_command.specs.declared.script.error.ScriptError.TheVariants as script
 use Rattle.cck_explain.specs.declared.error.ExplainError.{ExplainError}
 use Rattle.cck_explain.specs.declared.error.ExplainError.TheVariants.{Memory, Read, Write, NotEntry, Line}
 

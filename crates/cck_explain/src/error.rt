@@ -1,7 +1,6 @@
 //! The error of the program.
-use cck_command::Failed;
+use cck_command::{Failed, ScriptError};
 use cck_explain_listing::{EntryError, Fault};
-use cck_script::ScriptError;
 use cck_util::UtilError;
 use std::alloc::AllocError;
 use thiserror::Error;

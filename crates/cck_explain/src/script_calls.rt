@@ -7,8 +7,8 @@ ghost use Rattle.cck_util.specs.MapStore.{State};
 ghost use Rattle.cck_util.specs.Store.{counted};
 ghost use Rattle.jiff.specs.Words.{plain_zone};
 ghost use Rattle.cck_script.specs.Calls.{ScriptCallValue};
-ghost use Rattle.cck_script.specs.Script.{IsScriptError, commands_of, wrong_line};
-ghost use Rattle.cck_script.specs.Seen.{lines_of};
+ghost use Rattle.cck_command.specs.Script.{IsScriptError, commands_of, wrong_line};
+ghost use Rattle.cck_command.specs.ScriptSeen.{lines_of};
 ghost use Rattle.cck_include.specs.Config.{activated};
 ghost use Rattle.cck_hasher.specs.World.{world_of};
 ghost use Rattle.cck_command.specs.MiniCompiler.{mini_compiler};
@@ -23,11 +23,11 @@ use crate::note::{push_head, push_note};
 use crate::watched_store::WatchedStore;
 use c_cache_keys::{Call, run_calls};
 use cck_command::{
-    Failed, MiniCompiler, add_result_lines, compiler_of, ready_calls, store_of, zone_at,
+    Failed, MiniCompiler, Script, ScriptError, add_result_lines, compiler_of, ready_calls,
+    store_of, zone_at,
 };
 use cck_files::MapFiles;
 use cck_include::{JudgeContext, PreprocessorCacheModeConfig};
-use cck_script::{Script, ScriptError};
 use cck_util::HashState;
 use jiff::tz::TimeZone;
 use std::alloc::{AllocError, Global};

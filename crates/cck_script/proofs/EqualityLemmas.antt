@@ -1,21 +1,16 @@
--- `==` decides whether two commands say the same, and whether two errors are the same.
+-- `==` decides whether two commands say the same.
 use Rattle.std.proofs.Common.{◌≡◌, ℕ, refl, ap}
 use Rattle.std.proofs.lemmas.Bool.Decides.{Decides-and, Decides-eqb, Decides-int_eq, Decides-like}
 use Rattle.std.specs.Cmp.Lexicographic.{bytes_decides}
 use Rattle.std.specs.Prelude.{Decides}
-use denote.Enum.Declared.{tag_of}
 use Rattle.cck_digest.proofs.EqualityLemmas.{apart}
 use Rattle.cck_path.proofs.EqualityLemmas.{moment_decides, texts_decide, time_decides}
 use Rattle.cck_script.specs.Lines.{Line}
 use Rattle.cck_script.specs.Lines as line
 use Rattle.cck_script.specs.Seen.{line_of}
 use Rattle.cck_script.specs.contracts.command.CommandPartialEq.TheImpl as same_command
-use Rattle.cck_script.specs.contracts.error.ScriptError.{the_type as script_error}
-use Rattle.cck_script.specs.contracts.error.ScriptErrorPartialEq.TheImpl as same_error
 use Rattle.cck_script.specs.declared.command.Command.{Command}
 use Rattle.cck_script.specs.declared.command.Command.TheVariants.{Zone, Basedir, StoreForget, StoreFail, File, Folder, Gone, Variable, Clear, Compile, Recache}
-use Rattle.cck_script.specs.declared.error.ScriptError.{ScriptError}
-use Rattle.cck_script.specs.declared.error.ScriptError.TheVariants as error
 
 abbrev number : Line → ℕ
 number (line.Zone offset) = 0
@@ -48,8 +43,3 @@ command_decides (Compile m a) (Compile n b) =
 command_decides (Recache m a) (Recache n b) =
     Decides-like _ (λ h. λ i. line.Recache (h.0 i) (h.1 i)) (λ e. (cc, cc)) (Decides-and _ _ (moment_decides m n) (texts_decide a.items b.items))
 command_decides a b = apart number (line_of a) (line_of b) refl refl
-
-pub error_decides : (a b : ScriptError) → Decides (same_error.ghosts.eq a b) (a ≡ b)
-error_decides error.Memory error.Memory = (λ _. refl, λ _. refl)
-error_decides (error.Line a) (error.Line b) = Decides-like _ (λ e. ap error.Line e) (λ e. cc) (Decides-eqb a b)
-error_decides a b = apart (tag_of script_error) a b refl refl

@@ -10,7 +10,7 @@ use Rattle.cck_path.specs.Path.{Path, components, normal, path_cmp, path_cmp_tot
 use Rattle.cck_path.proofs.TestLemmas.{tied}
 use Rattle.cck_script.specs.Surroundings.{AreFiles, executable, executable_path, if_names, place_of_command, present, element_is_first}
 use Rattle.cck_script.specs.Lines.{Line}
-use Rattle.cck_script.specs.Script.{first_or}
+use Rattle.cck_script.specs.Lines.{first_or}
 
 -- the node after a line that names a path, or else the node before it
 abbrev over : Path → Path → Option FileNode → Option FileNode → Option FileNode

@@ -17,7 +17,7 @@ use Rattle.cck_path.specs.Timestamp.{Moment}
 use Rattle.cck_path.specs.Variables.{Variable as NamedValue}
 use Rattle.cck_path.specs.declared.metadata.FileKind.TheVariants as kind
 use Rattle.cck_script.specs.Lines.{Line, File, Folder, Gone, Variable, Clear}
-use Rattle.cck_script.specs.Script.{first_or}
+use Rattle.cck_script.specs.Lines.{first_or}
 use Rattle.cck_script.specs.declared.surroundings.Surroundings.{Surroundings}
 
 -- ---- the node at a path. Lines are given from the last to the first

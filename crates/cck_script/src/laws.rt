@@ -3,17 +3,12 @@ ghost use Rattle.std.specs.Prelude.{◌≡◌, ◌↔◌, IsTrue};
 ghost use Rattle.cck_script.specs.Seen.{line_of};
 ghost use Rattle.cck_script.specs.Surroundings.{executable_path, working_directory};
 
-use crate::{Command, EXECUTABLE, ScriptError, WORKING_DIRECTORY};
+use crate::{Command, EXECUTABLE, WORKING_DIRECTORY};
 
 /// Two [`Command`]s are equal exactly if they say the same.
 pub fn command_equality_is_exact()
     ensures { (a b : Command) →
         IsTrue (⟦<Command as PartialEq>⟧.eq a b) ↔ (line_of a ≡ line_of b) }
-{}
-
-/// Two [`ScriptError`]s are equal exactly if they are the same.
-pub fn script_error_equality_is_exact()
-    ensures { (a b : ScriptError) → IsTrue (⟦<ScriptError as PartialEq>⟧.eq a b) ↔ (a ≡ b) }
 {}
 
 /// [`EXECUTABLE`] and [`WORKING_DIRECTORY`] are the paths that the definition of a script's calls

@@ -1,0 +1,2 @@
+pub mod FixedCompiler
+pub mod NotingFiles

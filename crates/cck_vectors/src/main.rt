@@ -1,16 +1,22 @@
 //! The program `cck_vectors`: makes the calls of vector files, and compares their results.
 //!
-//! The words after its name are vector files. The folder that a file is in says which crate, or which
-//! module of this one, knows its calls; `docs/TESTING.md` has a table of them, and the grammar of the
-//! files. For each file the program prints each difference, and the number of results. For the word
-//! `examples` it prints the results of `examples` of `cck_call_cases`.
+//! The words after its name are vector files. The folder that a file is in says which module knows its
+//! calls, or that `cck_cases` does; `docs/TESTING.md` has a table of them, and the grammar of the files.
+//! For each file the program prints each difference, and the number of results. For the word `examples`
+//! it prints the results of [`examples`].
 //!
 //! The status is 0 if all results are the expected ones, and 1 if one differs or a line can't be
 //! read. It is 2 if a file can't be read, memory is lacking or a call of the examples fails.
 #![tactic(auto)]
 
+mod call_cases;
+mod file_cases;
 mod script_cases;
 
+use crate::call_cases::{Calls, examples};
+use crate::file_cases::{FileCases, WalkCases};
+use crate::script_cases::Scripts;
+use cck_cases::run_file;
 use std::process::ExitCode;
 use std::{env, io};
 
@@ -24,7 +30,7 @@ fn folder_of(path: &str) -> &str {
 }
 
 fn print_examples(rt: &HostRuntime) -> io::Result<bool> {
-    let Some(results) = cck_call_cases::examples::results(rt.alloc()) else {
+    let Some(results) = examples::results(rt.alloc()) else {
         return Err(io::Error::from(io::ErrorKind::Other));
     };
     rt.print(&results)?;
@@ -37,10 +43,10 @@ fn run_word(rt: &HostRuntime, name: &str) -> io::Result<bool> {
     }
     match folder_of(name) {
         "values" => cck_cases::run_value_file(rt, name),
-        "files" => cck_file_cases::run_file(rt, name),
-        "walks" => cck_file_cases::run_walk_file(rt, name),
-        "calls" => cck_call_cases::run_file(rt, name),
-        "scripts" => script_cases::run_file(rt, name),
+        "files" => run_file::<FileCases>(rt, name),
+        "walks" => run_file::<WalkCases>(rt, name),
+        "calls" => run_file::<Calls>(rt, name),
+        "scripts" => run_file::<Scripts>(rt, name),
         _ => Err(io::Error::from(io::ErrorKind::NotFound)),
     }
 }

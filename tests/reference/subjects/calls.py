@@ -1,4 +1,4 @@
-"""The calls of `cck_call_cases`: compilers, stores, calls for keys and lists of calls."""
+"""The calls of `call_cases`: compilers, stores, calls for keys and lists of calls."""
 import dataclasses
 
 from ..arguments import (

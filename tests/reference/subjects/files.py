@@ -1,4 +1,4 @@
-"""The calls of `cck_file_cases`: maps of paths, files, digests, wrappers, times, keys and entries."""
+"""The calls of `file_cases`: maps of paths, files, digests, wrappers, times, keys and entries."""
 from ..cases import (
     BaseSubject,
     WrongLine,

@@ -1,4 +1,4 @@
-"""The calls of `cck_file_cases`: line markers and walks."""
+"""The calls of `file_cases`: line markers and walks."""
 import itertools
 
 from ..cases import (

@@ -3,9 +3,11 @@ use crate::script_cases::commands::write_number;
 use c_cache_keys::cck_entry::PreprocessorCacheEntry;
 use c_cache_keys::{Call, HashResult, KeyError, MapStore, PreprocessorStore, run_calls};
 use cck_cases::CaseError;
-use cck_command::{Failed, MiniCompiler, compiler_of, ready_calls, zone_at};
+use cck_command::{
+    Failed, MiniCompiler, RunOptions, Script, ScriptError, compiler_of, ready_calls, zone_at,
+};
 use cck_include::PreprocessorCacheModeConfig;
-use cck_script::{RunOptions, Script, ScriptError, copy_variables};
+use cck_script::copy_variables;
 use cck_util::{MapFiles, Sha256State, UtilError};
 use jiff::tz::TimeZone;
 use std::alloc::{AllocError, Global};

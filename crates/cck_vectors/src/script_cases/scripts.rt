@@ -4,7 +4,8 @@ use crate::script_cases::commands::{
 };
 use crate::script_cases::places::write_surroundings;
 use cck_cases::{CaseError, end_line, number};
-use cck_script::{RunOptions, Script, ScriptError, Surroundings};
+use cck_command::{RunOptions, Script, ScriptError};
+use cck_script::Surroundings;
 use cck_util::UtilError;
 use std::alloc::{AllocError, Global};
 

@@ -1,6 +1,7 @@
 use Rattle.std.proofs.Common.{◌∙◌, [], ap, map, sym}
 use Rattle.cck_script.specs.Calls.{calls_after}
-use Rattle.cck_script.specs.Seen.{line_of, lines_of}
+use Rattle.cck_command.specs.ScriptSeen.{lines_of}
+use Rattle.cck_script.specs.Seen.{line_of}
 use Rattle.cck_command.proofs.FollowedLemmas.{none_left, one_line_more}
 use Rattle.cck_command.proofs.calls.ready_calls.Goals as goal
 

@@ -1,6 +1,7 @@
 use Rattle.std.proofs.Common.{map}
 use Rattle.std.specs.List.{AllZip}
-use Rattle.cck_script.specs.Seen.{line_of, lines_of}
+use Rattle.cck_command.specs.ScriptSeen.{lines_of}
+use Rattle.cck_script.specs.Seen.{line_of}
 use Rattle.cck_command.specs.Made.{IsReady}
 use Rattle.cck_command.proofs.FollowedLemmas.{AreFollowed}
 use Rattle.cck_command.proofs.calls.ready_calls.Given as goal

@@ -1,7 +1,8 @@
 use Rattle.std.proofs.Common.{◌≡◌, ◌∙◌, [], ap, map, rules, sym}
 use Rattle.cck_script.specs.Calls.{calls_after}
-use Rattle.cck_script.specs.Script.{zone_of}
-use Rattle.cck_script.specs.Seen.{line_of, lines_of}
+use Rattle.cck_command.specs.Script.{zone_of}
+use Rattle.cck_command.specs.ScriptSeen.{lines_of}
+use Rattle.cck_script.specs.Seen.{line_of}
 use Rattle.cck_command.specs.Run.{armed_by}
 use Rattle.cck_command.proofs.FollowedLemmas.{none_left, one_line_more}
 use Rattle.cck_command.proofs.MadeLemmas.{compiler_in, made_joined, none_made, ran}

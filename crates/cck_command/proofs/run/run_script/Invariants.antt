@@ -1,8 +1,9 @@
 use Rattle.std.proofs.Common.{[], map}
 use Rattle.cck_path.specs.Bytes.{lists_of}
 use Rattle.jiff.specs.Words.{plain_zone}
-use Rattle.cck_script.specs.Script.{zone_of}
-use Rattle.cck_script.specs.Seen.{line_of, lines_of}
+use Rattle.cck_command.specs.Script.{zone_of}
+use Rattle.cck_command.specs.ScriptSeen.{lines_of}
+use Rattle.cck_script.specs.Seen.{line_of}
 use Rattle.cck_hasher.specs.World.{world_of}
 use Rattle.cck_include.specs.Config.{activated}
 use Rattle.cck_command.specs.Made.{AreMade}

@@ -4,8 +4,8 @@ use Rattle.cck_command.proofs.MadeLemmas.{compiler_in, ran}
 use Rattle.cck_command.specs.Made.{IsReady}
 use Rattle.cck_command.specs.Run.{armed_by}
 use Rattle.cck_script.specs.Calls.{script_calls}
-use Rattle.cck_script.specs.Script.{zone_of}
-use Rattle.cck_script.specs.Seen.{lines_of}
+use Rattle.cck_command.specs.Script.{zone_of}
+use Rattle.cck_command.specs.ScriptSeen.{lines_of}
 use Rattle.cck_explain.proofs.NotedLemmas.{all_noted, none_noted, noted_in, one_more}
 use Rattle.cck_explain.proofs.script_calls.explain_calls.Goals as goal
 

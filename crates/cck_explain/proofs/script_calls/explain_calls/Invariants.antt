@@ -4,8 +4,8 @@ use Rattle.cck_hasher.specs.World.{world_of}
 use Rattle.cck_command.specs.MiniCompiler.{mini_compiler}
 use Rattle.cck_command.specs.Run.{armed_by}
 use Rattle.cck_script.specs.Calls.{script_calls}
-use Rattle.cck_script.specs.Script.{zone_of}
-use Rattle.cck_script.specs.Seen.{lines_of}
+use Rattle.cck_command.specs.Script.{zone_of}
+use Rattle.cck_command.specs.ScriptSeen.{lines_of}
 use Rattle.cck_include.specs.Config.{activated}
 use Rattle.cck_explain.proofs.NotedLemmas.{SoFar}
 use Rattle.cck_explain.proofs.script_calls.explain_calls.Given as goal

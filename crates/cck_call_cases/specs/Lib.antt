@@ -1,2 +1,0 @@
-pub mod FixedCompiler
-pub mod NotingFiles
