@@ -1,5 +1,7 @@
 -- what a look-up finds
-use Rattle.std.specs.Prelude.{◌≡◌, ◌<◌, ℕ, List, [], Bool, true, false, Option, Some, None, IfSome, String, string_bytes}
+use Rattle.std.specs.Prelude.{◌≡◌, ◌<◌, ◌⊎◌, ℕ, List, [], Bool, true, false, Option, Some, None, IfSome, String, string_bytes}
+use Rattle.std.specs.Global.{Vec}
+use Rattle.std.specs.Option.{option_or}
 use Rattle.std.specs.FinMap.{empty}
 use Rattle.std.specs.declared.alloc.Global.{Global}
 use Rattle.cck_cache.specs.Included.{IsIncluded}
@@ -13,15 +15,23 @@ use Rattle.cck_cache.specs.declared.look.Found.TheVariants.{Hit, Miss, NoKey}
 use Rattle.cck_cache.specs.declared.look.LookUp.{LookUp}
 use Rattle.cck_cache.specs.declared.look.Looked.{Looked}
 use Rattle.cck_cache.specs.declared.look.Looked.TheVariants.{Object, Missed}
+use Rattle.cck_cache.specs.declared.look.Missed as missed
 use Rattle.cck_cache.specs.declared.look.Kept.{Kept}
 use Rattle.cck_cache.specs.declared.look.Kept.TheVariants.{Nothing, Damaged, Entry as KeptEntry}
-use Rattle.cck_cache_rules.specs.Files.{EntryFields}
+use Rattle.cck_cache_rules.specs.Contents.{ReadsFor, key_of_entry, key_of_object}
+use Rattle.cck_cache_rules.specs.Files.{EntryFields, IsEntryFile, entry_fields, entry_file, object_fields, object_file}
 use Rattle.cck_cache_rules.specs.PathStatus.{Status}
 use Rattle.cck_cache_rules.specs.PathTest.{Test}
+use Rattle.cck_cache_rules.specs.Reading.{IsAny}
+use Rattle.cck_cache_rules.specs.declared.object_file.ObjectFile.{ObjectFile}
 use Rattle.cck_cache_files.specs.EntryNames.{entry_files}
 use Rattle.cck_cache_files.specs.PathStatuses.{AreAsRecorded}
 use Rattle.cck_cache_files.specs.PathTests.{IsFirstFailing}
 use Rattle.cck_cache_files.specs.Snapshot.{ArePut, IsPart}
+use Rattle.cck_cache_files.specs.declared.store_directory.Kind.{Kind}
+use Rattle.cck_cache_files.specs.declared.store_directory.Kind.TheVariants as kind
+use Rattle.cck_cache_server.specs.Given.{IsGiven}
+use Rattle.cck_cache_server.specs.declared.given.Given.TheVariants as given
 use Rattle.cck_cache_arguments.specs.declared.request.Request.{Request}
 use Rattle.cck_cache_arguments.specs.declared.task.Look.{Look}
 use Rattle.cck_cache_arguments.specs.declared.task.Outputs.{Outputs}
@@ -82,6 +92,12 @@ IsKeyEntry key Nothing = Unit {0}
 IsKeyEntry key Damaged = Unit {0}
 IsKeyEntry key (KeptEntry file) = file.preprocessor_key.items ≡ key
 
+-- what the bytes of an entry file hold of a preprocessor key
+abbrev pub IsKeptIn : Bytes → Bytes → Kept → Type 0
+IsKeptIn key bytes Nothing = ⊥
+IsKeptIn key bytes Damaged = ReadsFor IsEntryFile key_of_entry entry_file key bytes None
+IsKeptIn key bytes (KeptEntry file) = ReadsFor IsEntryFile key_of_entry entry_file key bytes (Some (entry_fields file))
+
 -- a look-up by an entry file begins with the preprocessor key of its request over the snapshot of the input
 pub record IsLookUp (lookup : LookUp) : Type 0 where
   pub calm : IsCalm lookup.files.now
@@ -97,6 +113,39 @@ IsNameOf lookup =
 abbrev pub IsMissed : Option (String Global) → Looked → Type 0
 IsMissed name (Object place n object) = ⊥
 IsMissed name (Missed missed) = missed.object_name ≡ name
+
+-- no object was found, and this file is damaged, and this value has not the right signature
+abbrev pub IsWrong : Option (String Global) → Option (String Global) → Looked → Type 0
+IsWrong damaged forged (Object place n object) = ⊥
+IsWrong damaged forged (Missed missed) = (missed.damaged ≡ damaged) × (missed.forged ≡ forged)
+
+-- what was found in two places: in each part the first that there is
+pub record AreJoined (before one all : missed.Missed) : Type 0 where
+  pub object_name : all.object_name ≡ option_or before.object_name one.object_name
+  pub damaged : all.damaged ≡ option_or before.damaged one.damaged
+  pub forged : all.forged ≡ option_or before.forged one.forged
+
+-- What these bytes hold of the object of a name. This file is damaged exactly if they are not an object file of the name.
+abbrev pub IsObjectIn : Outputs → Bytes → Bytes → String Global → Looked → Type 0
+IsObjectIn outputs name bytes file (Object place n object) = ReadsFor IsAny key_of_object object_file name bytes (Some (object_fields object))
+IsObjectIn outputs name bytes file (Missed missed) =
+    (missed.forged ≡ None)
+    × (((missed.damaged ≡ Some file) × ReadsFor IsAny key_of_object object_file name bytes None)
+    ⊎ ((missed.damaged ≡ None) × ((object : ObjectFile) × ReadsFor IsAny key_of_object object_file name bytes (Some (object_fields object)) × (has_outputs outputs object ≡ false))))
+
+-- What a server gave under the name of an object. An object is of a value that was tested with this key of signatures, and none is forged but one that the key did
+-- not sign.
+abbrev pub IsGivenObject : (Kind → Bytes → Bytes → Type 0) → Option Bytes → Bytes → Looked → Type 0
+IsGivenObject Has key name (Object place n object) =
+    (file : Vec ℕ) × IsGiven (Has kind.Object name) key kind.Object name (given.File file) × ReadsFor IsAny key_of_object object_file name file.items (Some (object_fields object))
+IsGivenObject Has key name (Missed missed) = IfSome missed.forged (λ (value : String Global). IsGiven (Has kind.Object name) key kind.Object name given.Forged)
+
+-- an object was found by an entry file that the server has of a preprocessor key, of a value that was tested in the same way
+abbrev pub IsGivenEntry : (Kind → Bytes → Bytes → Type 0) → Option Bytes → Bytes → Looked → Type 0
+IsGivenEntry Has key name (Object place n object) =
+    (file : Vec ℕ) × IsGiven (Has kind.Entry name) key kind.Entry name (given.File file)
+    × ((fields : EntryFields) × ReadsFor IsEntryFile key_of_entry entry_file name file.items (Some fields))
+IsGivenEntry Has key name (Missed missed) = Unit {0}
 
 -- what was found under the name of an object of the entry file at a place, if it has one
 abbrev pub IsKeptObject : Outputs → Option ℕ → String Global → Looked → Type 0

@@ -1,7 +1,8 @@
 //! Looks for an object in the store.
 ghost use Rattle.std.specs.Prelude.{◌≡◌, ◌<◌, ◌⊎◌, [], IfOk, IfSome, None, Some, false, string_bytes, true};
+ghost use Rattle.std.specs.Option.{option_map};
 ghost use Rattle.cck_cache.specs.Input.{IsCalm};
-ghost use Rattle.cck_cache.specs.Look.{IsFoundFor, IsKeptObject, IsKeyEntry, IsLookResult, IsLooked, IsMissed, IsNamedMatch, IsNameOf, IsLookUp, keeps};
+ghost use Rattle.cck_cache.specs.Look.{AreJoined, IsFoundFor, IsGivenEntry, IsGivenObject, IsKeptIn, IsKeptObject, IsKeyEntry, IsLookResult, IsLooked, IsMissed, IsNamedMatch, IsNameOf, IsLookUp, IsObjectIn, IsWrong, keeps};
 ghost use Rattle.cck_cache.specs.Request.{IsKeyOver, IsRequest};
 ghost use Rattle.cck_cache_rules.specs.PathStatus.{statuses_of};
 ghost use Rattle.cck_cache_rules.specs.PathTest.{tests_of};
@@ -114,7 +115,8 @@ enum Looked {
 
 // What these bytes of an entry file hold of a preprocessor key.
 fn kept_in(alloc: Global, key: &str, bytes: &[u8]) -> Result<Kept, AllocError>
-    ensures { IfOk result (IsKeyEntry key.now) }
+    ensures key { IfOk result (IsKeyEntry key.now) }
+    ensures read { IfOk result (IsKeptIn key.now bytes.now) }
 {
     Ok(match entry_in(alloc, key, bytes)? {
         Some(file) => Kept::Entry(file),
@@ -181,7 +183,8 @@ fn matching_name<R: Files + AllocGlobal>(
 
 // Nothing was found, but for this name of an object.
 fn nothing_found(object_name: Option<String>) -> Looked
-    ensures { IsMissed object_name result }
+    ensures name { IsMissed object_name result }
+    ensures wrong { IsWrong None None result }
 {
     Looked::Missed(Missed {
         object_name,
@@ -192,7 +195,8 @@ fn nothing_found(object_name: Option<String>) -> Looked
 
 // Nothing was found, but for this name of an object and this file, which is damaged.
 fn damaged_found(object_name: Option<String>, damaged: String) -> Looked
-    ensures { IsMissed object_name result }
+    ensures name { IsMissed object_name result }
+    ensures wrong { IsWrong (Some damaged) None result }
 {
     Looked::Missed(Missed {
         object_name,
@@ -203,7 +207,8 @@ fn damaged_found(object_name: Option<String>, damaged: String) -> Looked
 
 // Nothing was found, but for this name of an object and this value of the server, which has not the right signature.
 fn forged_found(object_name: Option<String>, forged: String) -> Looked
-    ensures { IsMissed object_name result }
+    ensures name { IsMissed object_name result }
+    ensures wrong { IsWrong None (Some forged) result }
 {
     Looked::Missed(Missed {
         object_name,
@@ -223,7 +228,8 @@ fn object_found(
     bytes: &[u8],
     file: String,
 ) -> Result<Looked, AllocError>
-    ensures { IfOk result (IsKeptObject outputs.now place name) }
+    ensures kept { IfOk result (IsKeptObject outputs.now place name) }
+    ensures read { IfOk result (IsObjectIn outputs.now (string_bytes name) bytes.now file) }
 {
     Ok(match object_in(alloc, name.as_str(), bytes)? {
         Some(object) if has_outputs(&object, outputs) => Looked::Object {
@@ -280,7 +286,9 @@ fn given_object<R: Files + AllocGlobal, S: Peer>(
     peer: &mut S,
     name: String,
 ) -> Result<Looked>
-    ensures { IfOk result (IsKeptObject lookup.now.wanted.now.outputs None name) }
+    ensures kept { IfOk result (IsKeptObject lookup.now.wanted.now.outputs None name) }
+    ensures given { IfOk result (IsGivenObject (S.has peer.old)
+        (option_map (λ k. k.now) lookup.now.verify_key) (string_bytes name)) }
 {
     let alloc = rt.alloc();
     let value = format!(in alloc; "object:{name}")?;
@@ -353,7 +361,8 @@ fn look_at_place<R: Files + AllocGlobal>(
 
 // What was found by one entry file, and by the ones before it.
 fn with_missed(before: Missed, one: Missed) -> Missed
-    ensures { (result.object_name ≡ before.object_name) ⊎ (result.object_name ≡ one.object_name) }
+    ensures either { (result.object_name ≡ before.object_name) ⊎ (result.object_name ≡ one.object_name) }
+    ensures joined { AreJoined before one result }
 {
     Missed {
         object_name: before.object_name.or(one.object_name),
@@ -388,7 +397,9 @@ fn look_at_server<R: Files + AllocGlobal, S: Peer>(
     lookup: &LookUp<'_>,
     peer: &mut S,
 ) -> Result<Looked>
-    ensures { IfOk result (λ looked. IsLookUp lookup.now → IsLooked lookup.now looked) }
+    ensures looked { IfOk result (λ looked. IsLookUp lookup.now → IsLooked lookup.now looked) }
+    ensures given { IfOk result (IsGivenEntry (S.has peer.old)
+        (option_map (λ k. k.now) lookup.now.verify_key) (string_bytes lookup.now.key.now.text)) }
 {
     let (alloc, key) = (rt.alloc(), lookup.key.text.as_str());
     let bytes = match given_file(alloc, peer, lookup.verify_key, Kind::Entry, key)? {

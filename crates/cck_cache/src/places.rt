@@ -1,9 +1,9 @@
 //! Whether what a compilation writes may be put at its paths.
 use crate::call::CallPaths;
+use cck_cache_files::Identity;
 use std::fs;
 use std::fs::{Metadata, OpenOptions};
 use std::io::ErrorKind;
-use std::os::unix::fs::MetadataExt;
 use std::rt::Files;
 
 // Whether a file can be opened for writing. clang makes its object anew, but not in the place of one that can't.
@@ -17,7 +17,7 @@ fn is_writable<R: Files>(rt: &R, path: &str) -> bool {
 fn is_free<R: Files>(rt: &R, input: &Metadata, path: &str, least: u64) -> bool {
     match fs::symlink_metadata(rt, path) {
         Ok(found) => {
-            let is_input = found.dev() == input.dev() && found.ino() == input.ino();
+            let is_input = Identity::of(&found).is(Identity::of(input));
             found.is_file() && !is_input && found.len() >= least && is_writable(rt, path)
         }
         Err(error) => error.kind() == ErrorKind::NotFound,
@@ -34,7 +34,7 @@ fn may_be_standard_error<R: Files>(rt: &R, path: &str) -> bool {
         return false;
     };
     match fs::metadata(rt, STANDARD_ERROR) {
-        Ok(stream) => found.dev() == stream.dev() && found.ino() == stream.ino(),
+        Ok(stream) => Identity::of(&found).is(Identity::of(&stream)),
         Err(_) => true,
     }
 }

@@ -3,6 +3,7 @@ ghost use Rattle.std.specs.Prelude.{◌≡◌, ◌++◌, ◌↔◌, IfOk, IfSome
 ghost use Rattle.std.specs.Option.{option_map};
 ghost use Rattle.cck_cache.specs.Input.{IsCalm};
 ghost use Rattle.cck_cache.specs.Record.{HasNoLocalTime, Holds, IsEntryOf, IsEntryVerdict, IsInputVerdict, IsJudgedByReading, IsJudgedByRules, IsKept, IsLocalTime, IsOneDay, IsOutcome, IsOutcomeOver, IsRefusedByBase, IsSeen, IsSeenBySome, ObjectShowsBase, gathered_tests, recorded_fields};
+ghost use Rattle.cck_cache_files.specs.PathStatuses.{AreStatusesBefore};
 ghost use Rattle.cck_cache_rules.specs.PathStatus.{Status, statuses_of};
 ghost use Rattle.cck_cache_rules.specs.Files.{entry_fields};
 ghost use Rattle.cck_cache_rules.specs.PathTest.{tests_of};
@@ -106,7 +107,10 @@ enum Seen {
 fn statuses_by<R: Files + AllocGlobal>(
     rt: &R,
     preprocessed: &Preprocessed<'_>,
-) -> Result<TextStatuses, UtilError> {
+) -> Result<TextStatuses, UtilError>
+    ensures { IfOk result (λ found.
+        AreStatusesBefore preprocessed.now.since (statuses_of found.statuses.items)) }
+{
     let (request, text) = (preprocessed.request, preprocessed.text);
     let directory = request.directory.as_bytes();
     let paths = compared_paths(rt.alloc(), directory, request.input.as_bytes(), text)?;
@@ -440,7 +444,9 @@ fn entry_file_with<R: Files + AllocGlobal>(
     asked: Vec<PathTest>,
     others: Vec<PathTest>,
 ) -> Result<EntryFile, AllocError>
-    ensures { IfOk result (λ file. (statuses : List Status) × (entry_fields file ≡ recorded_fields entry statuses
+    ensures { IfOk result (λ file. (own : List Status)
+        × (AreStatusesBefore since (statuses_of statuses.items) → AreStatusesBefore since own)
+        × (entry_fields file ≡ recorded_fields entry own
         ((tests_of made.items ++ tests_of asked.items) ++ tests_of others.items))) }
 {
     let tests = all_tests(made, asked)?;

@@ -1,15 +1,17 @@
 -- statuses of paths: the directories of absent paths, and included files
-use Rattle.std.specs.Prelude.{◌≡◌, ◌<◌, ◌⊎◌, List, ℕ, ◌∷◌, ◌++◌, Some, true, false, length, Contains}
+use Rattle.std.specs.Prelude.{◌≡◌, ◌<◌, ◌⊎◌, List, ℕ, [], ◌∷◌, ◌++◌, Some, true, false, length, Contains}
 use Rattle.std.specs.FinMap.{get}
 use Rattle.cck_cache_rules.specs.PathStatus.{Status}
 use Rattle.cck_entry.specs.Statuses.{Statuses, known_accepts}
 use Rattle.cck_files.specs.FileState.{FileState}
 use Rattle.cck_include.specs.Include.{Include}
 use Rattle.cck_path.specs.Path.{Path, components}
+use Rattle.cck_path.specs.Timestamp.{Moment}
 use Rattle.cck_path.specs.declared.metadata.FileKind.TheVariants.{Folder}
 use Rattle.cck_path.specs.declared.metadata.Metadata.{Metadata}
 use Rattle.cck_cache_files.specs.Programs.{Lacks}
 use Rattle.cck_cache_files.specs.Snapshot.{IsNodePut}
+use Rattle.cck_cache_files.specs.Times.{IsEarlier}
 
 -- a path is that of a name in a directory, which is not the root
 pub record IsInDirectory (path directory : List ℕ) : Type 0 where
@@ -25,6 +27,18 @@ pub record IsInKnownDirectory (known : Statuses) (path : List ℕ) : Type 0 wher
   pub metadata : Metadata
   pub is_known : get known (components directory) ≡ Some metadata
   pub is_directory : metadata.kind ≡ Folder
+
+-- a status has two times before this one
+abbrev pub IsStatusBefore : Moment → Status → Type 0
+IsStatusBefore since status = IsEarlier status.modified since × IsEarlier status.changed since
+
+abbrev pub AreStatusesBefore : Moment → List Status → Type 0
+AreStatusesBefore since statuses = (status : Status) → Contains statuses status → IsStatusBefore since status
+
+-- no status was added, or one of this path with two times before this one
+abbrev pub IsStatusAdded : Moment → List ℕ → List Status → List Status → Type 0
+IsStatusAdded since path before after =
+    (after ≡ before) ⊎ ((status : Status) × (after ≡ before ++ status ∷ []) × (status.path ≡ path) × IsStatusBefore since status)
 
 -- what is known of a path has the times of one of these statuses, which is of the path
 pub record IsAsRecorded (recorded : List Status) (p : Path) (m : Metadata) : Type 0 where

@@ -2,7 +2,7 @@
 use Rattle.std.specs.Prelude.{◌≡◌, List, [], ◌∷◌, ◌++◌, Option, Some, None, IsUtf8}
 use Rattle.cck_cache_rules.specs.PathTest.{Test, Absent, File, Directory, Searched, Plain, Real}
 use Rattle.cck_cache_files.specs.Searched.{IsFirstSame, IsPlaceOf}
-use Rattle.cck_cache_files.specs.declared.searched.Identity.{Identity}
+use Rattle.cck_cache_files.specs.declared.identity.Identity.{Identity}
 
 -- A test held, after and before which these identities were found of the directories that are searched. One of such a directory holds only where
 -- the first that is the same has its place. Only a path that is UTF-8 is looked at.

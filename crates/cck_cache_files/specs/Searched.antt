@@ -1,6 +1,6 @@
 -- which of the directories that a preprocessor searches are the same
 use Rattle.std.specs.Prelude.{◌≡◌, ◌≢◌, ℕ, ◌<◌, List, [], ◌∷◌, ◌++◌, Option, Some, None, IsUtf8, get_or}
-use Rattle.cck_cache_files.specs.declared.searched.Identity.{Identity}
+use Rattle.cck_cache_files.specs.declared.identity.Identity.{Identity}
 
 -- a directory of this identity was found at this place, and at no earlier one
 pub record IsFirstSame (all : List (Option Identity)) (identity : Identity) (place : ℕ) : Type 0 where

@@ -31,6 +31,7 @@
 mod compiler;
 mod copies;
 mod entry_names;
+mod identity;
 pub mod laws;
 mod listing;
 mod path_in;
@@ -52,6 +53,7 @@ pub use copies::{
     may_be_copy,
 };
 pub use entry_names::{ENTRY_FILES, entry_name};
+pub use identity::Identity;
 pub use listing::{StoredFile, list_counts, list_files, list_share};
 pub use path_states::{PathState, PathStates, is_file};
 pub use path_statuses::{

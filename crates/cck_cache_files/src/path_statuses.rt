@@ -2,12 +2,13 @@
 ghost use Rattle.std.specs.Prelude.{◌≡◌, [], IfOk, IfSome, IsTrue, IsUtf8};
 ghost use Rattle.std.specs.FinMap.{empty};
 ghost use Rattle.std.specs.Prelude.{IsOkUnless, OnOk};
-ghost use Rattle.cck_cache_files.specs.PathStatuses.{AreAsRecorded, IsInDirectory, IsInKnownDirectory, IsIncludeAdded};
+ghost use Rattle.cck_cache_files.specs.PathStatuses.{AreAsRecorded, AreStatusesBefore, IsInDirectory, IsInKnownDirectory, IsIncludeAdded, IsStatusAdded};
 ghost use Rattle.cck_cache_files.specs.Snapshot.{IsPart, StaysCalm};
 ghost use Rattle.cck_cache_rules.specs.PathStatus.{statuses_of};
 ghost use Rattle.cck_files.specs.FileState.{IsQuiet};
 ghost use Rattle.cck_include.specs.Include.{include_lent};
 
+use crate::identity::Identity;
 use crate::path_in::path_in;
 use crate::path_states::PathStates;
 use crate::snapshot::add_new_file;
@@ -64,17 +65,21 @@ fn add_status(
     path: &[u8],
     found: &fs::Metadata,
     since: Timestamp,
-) -> Result<(), AllocError> {
+) -> Result<(), AllocError>
+    ensures { OnOk result (IsStatusAdded since path.now
+        (statuses_of statuses.old.items) (statuses_of statuses.new.items)) }
+{
     let (Some(modified), Some(changed)) = (modified(found), changed(found)) else {
         return Ok(());
     };
     if !changed_before(Some(modified), Some(changed), since) {
         return Ok(());
     }
+    let Identity { device, inode } = Identity::of(found);
     statuses.push(PathStatus {
         path: path.to_vec(alloc)?,
-        device: found.dev(),
-        inode: found.ino(),
+        device,
+        inode,
         modified,
         changed,
     })?;
@@ -90,7 +95,10 @@ pub fn add_directory_statuses<R: Files + AllocGlobal>(
     statuses: &mut Vec<PathStatus>,
     since: Timestamp,
     tests: &[PathTest],
-) -> Result<(), AllocError> {
+) -> Result<(), AllocError>
+    ensures { OnOk result (AreStatusesBefore since (statuses_of statuses.old.items)
+        → AreStatusesBefore since (statuses_of statuses.new.items)) }
+{
     let alloc = rt.alloc();
     let mut seen = BTreeSet::new(alloc);
     for test in tests {
@@ -138,7 +146,9 @@ pub fn text_statuses<R: Files + AllocGlobal>(
     rt: &R,
     since: Timestamp,
     paths: &BTreeSet<Vec<u8>>,
-) -> Result<TextStatuses, AllocError> {
+) -> Result<TextStatuses, AllocError>
+    ensures { IfOk result (λ found. AreStatusesBefore since (statuses_of found.statuses.items)) }
+{
     let alloc = rt.alloc();
     let mut statuses = Vec::new(alloc);
     for path in paths {
@@ -198,7 +208,11 @@ fn unchanged<R: Files + AllocGlobal>(
     let Ok(found) = fs::metadata(rt, path) else {
         return Ok(None);
     };
-    if found.dev() != status.device || found.ino() != status.inode {
+    let recorded = Identity {
+        device: status.device,
+        inode: status.inode,
+    };
+    if !Identity::of(&found).is(recorded) {
         return Ok(None);
     }
     let (modified, changed) = (modified(&found), changed(&found));

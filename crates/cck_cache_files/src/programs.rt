@@ -12,6 +12,7 @@ ghost use Rattle.std.specs.Option.{option_map};
 ghost use Rattle.cck_cache_files.specs.Programs.{AreKept, ArePlaces, IsContext, IsKeptLine, IsLastPart, IsLine, IsListPath, IsListRead, StartsLine, absolute, may_execute, place_in};
 
 use crate::compiler::line_of;
+use crate::identity::Identity;
 use crate::path_in::path_in;
 use crate::times::{changed, changed_before, modified};
 use cck_path::Timestamp;
@@ -310,7 +311,7 @@ fn are_kept<R: Files + AllocGlobal>(
 // Whether a path leads to the file with this status.
 fn leads_to<R: Files>(rt: &R, path: &str, status: &Metadata) -> bool {
     match fs::metadata(rt, path) {
-        Ok(found) => found.dev() == status.dev() && found.ino() == status.ino(),
+        Ok(found) => Identity::of(&found).is(Identity::of(status)),
         Err(_) => false,
     }
 }

@@ -2,17 +2,10 @@
 ghost use Rattle.std.specs.Prelude.{◌≡◌, ◌≢◌, ◌<◌, None, Some, IfOk, IfSome, IsUtf8, MatchBool, MatchOption, OnErr, [], get_or, length, ℕ};
 ghost use Rattle.cck_cache_files.specs.Searched.{AddsDirectory, IsFirstSame};
 
+use crate::identity::Identity;
 use std::alloc::AllocError;
 use std::fs;
-use std::os::unix::fs::MetadataExt;
 use std::rt::Files;
-
-/// What the system knows a directory by.
-#[derive(Clone, Copy)]
-pub struct Identity {
-    device: u64,
-    inode: u64,
-}
 
 /// The directories that a preprocessor searches, in their order, as they were found.
 #[derive(Drop)]
@@ -31,10 +24,7 @@ fn identity_of<R: Files>(rt: &R, path: &[u8]) -> Option<Identity>
     if !found.is_dir() {
         return None;
     }
-    Some(Identity {
-        device: found.dev(),
-        inode: found.ino(),
-    })
+    Some(Identity::of(&found))
 }
 
 // Whether this is what was found of a directory.
@@ -42,7 +32,7 @@ fn is_same(known: Option<Identity>, identity: Identity) -> bool
     ensures { MatchBool result (known ≡ Some identity) (known ≢ Some identity) }
 {
     match known {
-        Some(known) => known.device == identity.device && known.inode == identity.inode,
+        Some(known) => known.is(identity),
         None => false,
     }
 }

@@ -8,6 +8,7 @@ ghost use Rattle.cck_markers.specs.Marks as marks;
 ghost use Rattle.cck_cache_files.specs.PathStates.{KeepsStates};
 ghost use Rattle.cck_cache_files.specs.Snapshot.{GrowsAt, SnapshotGrows, IsAdded, IsNamedFile, IsPart, IsNodePut, StaysCalm, named_path};
 
+use crate::identity::Identity;
 use crate::path_states::PathStates;
 use crate::times::{changed, modified};
 use cck_digest::UtilError;
@@ -17,7 +18,6 @@ use cck_path::{FileKind, join_path, normalize_path};
 use std::fs;
 use std::fs::{Metadata, OpenFile};
 use std::io::Read;
-use std::os::unix::fs::MetadataExt;
 use std::rt::Files;
 
 // A node with these contents.
@@ -118,7 +118,7 @@ pub fn is_one_file<R: Files>(rt: &R, a: &[u8], b: &[u8]) -> bool
     let Some(b) = metadata_of(rt, b) else {
         return false;
     };
-    a.dev() == b.dev() && a.ino() == b.ino()
+    Identity::of(&a).is(Identity::of(&b))
 }
 
 // Whether no link on the way to a path is in doubt, and there is none where the path is written

@@ -1,7 +1,9 @@
 //! Compilers with their executables, and parsed command lines.
 use crate::call_cases::fixed_compiler::FixedCompiler;
 use crate::call_cases::request::GivenRequest;
-use crate::call_cases::shown::{error_value, or_out_of_memory, write_arguments, write_word, write_words};
+use crate::call_cases::shown::{
+    error_value, or_out_of_memory, write_arguments, write_word, write_words,
+};
 use c_cache_keys::{
     CCompiler, CCompilerHasher, CCompilerImpl, CCompilerKind, CompilerArguments, KeyError,
     ParsedArguments,

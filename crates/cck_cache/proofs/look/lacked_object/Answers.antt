@@ -12,4 +12,4 @@ returns-in-Some g c =
     let name = c.in-Some.name in
     IfOk-weaker c.given_object.result (IsKeptObject lookup.wanted.now.outputs None name) (λ (looked : Looked). IsLookUp lookup → IsLooked lookup looked)
     (λ looked kept from. looked_kept lookup None name looked tt
-    (subst (λ (o : Option (String Global)). IfSome o (IsNameOf lookup)) c.in-Some.is (c.requires from)) kept) c.given_object.ensures
+    (subst (λ (o : Option (String Global)). IfSome o (IsNameOf lookup)) c.in-Some.is (c.requires from)) kept) c.given_object.ensures.kept

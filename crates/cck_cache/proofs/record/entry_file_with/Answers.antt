@@ -15,4 +15,4 @@ returns g c =
     ap tests_of c.in_ok-tests-2.ensures ∙ (map-append test_of c.in_ok-tests.tests.items others ∙ ap (λ (ts : List Test). ts ++ tests_of others) both)
     in
     let statuses = statuses_of c.add_directory_statuses.new.statuses.items in
-    (statuses, c.entry_file_of.ensures ∙ ap (recorded_fields c.args.entry statuses) all)
+    (statuses, c.in_ok-add_directory_statuses.ensures, c.entry_file_of.ensures ∙ ap (recorded_fields c.args.entry statuses) all)

@@ -1,7 +1,7 @@
 use Rattle.std.proofs.Common.{◌+◌, [], List, Option, drop, sym, subst, take}
 use Rattle.cck_cache_rules.specs.PathTest.{test_of, tests_of}
 use Rattle.cck_cache_files.specs.PathTests.{AllHold, Fails, Holds, none_made, one_more}
-use Rattle.cck_cache_files.specs.declared.searched.Identity.{Identity}
+use Rattle.cck_cache_files.specs.declared.identity.Identity.{Identity}
 use Rattle.cck_cache_files.proofs.TestLemmas.{parted, taken}
 use Rattle.cck_cache_files.proofs.path_tests.first_failing.Goals as goal
 

@@ -1,0 +1,31 @@
+//! Which file is at a path.
+ghost use Rattle.std.specs.Prelude.{◌≡◌, ◌≢◌, MatchBool};
+
+use std::fs::Metadata;
+use std::os::unix::fs::MetadataExt;
+
+/// What the system knows a file or a directory by.
+#[derive(Clone, Copy)]
+pub struct Identity {
+    /// The number of its device.
+    pub device: u64,
+    /// Its number on the device.
+    pub inode: u64,
+}
+
+impl Identity {
+    /// The identity of what was found at a path.
+    pub fn of(found: &Metadata) -> Identity {
+        Identity {
+            device: found.dev(),
+            inode: found.ino(),
+        }
+    }
+
+    /// Whether this is also the identity of another one.
+    pub fn is(self, other: Identity) -> bool
+        ensures { MatchBool result (self ≡ other) (self ≢ other) }
+    {
+        self.device == other.device && self.inode == other.inode
+    }
+}
