@@ -1,12 +1,13 @@
 //! Records a compilation in the store.
-ghost use Rattle.std.specs.Prelude.{◌≡◌, ◌++◌, ◌↔◌, IfOk, IfSome, IsTrue, List, MatchOption, OnOk, Some};
-ghost use Rattle.std.specs.Option.{option_map};
+ghost use Rattle.std.specs.Prelude.{◌≡◌, ◌++◌, ◌||◌, ◌↔◌, IfOk, IfSome, IsTrue, List, MatchOption, OnOk, Some};
+ghost use Rattle.std.specs.Option.{option_map, option_or};
 ghost use Rattle.cck_cache.specs.Input.{IsCalm};
 ghost use Rattle.cck_cache.specs.Record.{HasNoLocalTime, Holds, IsEntryOf, IsEntryVerdict, IsInputVerdict, IsJudgedByReading, IsJudgedByRules, IsKept, IsLocalTime, IsOneDay, IsOutcome, IsOutcomeOver, IsRefusedByBase, IsSeen, IsSeenBySome, ObjectShowsBase, gathered_tests, recorded_fields};
 ghost use Rattle.cck_cache_files.specs.PathStatuses.{AreStatusesBefore};
 ghost use Rattle.cck_cache_rules.specs.PathStatus.{Status, statuses_of};
 ghost use Rattle.cck_cache_rules.specs.Files.{entry_fields};
 ghost use Rattle.cck_cache_rules.specs.PathTest.{tests_of};
+ghost use Rattle.cck_cache_rules.specs.declared.refusal.Refusal.TheVariants.{BaseDirectory};
 ghost use Rattle.cck_cache_text.specs.ReadFiles.{IsOpenedRule};
 ghost use Rattle.cck_files.specs.Calls.{Keeps};
 ghost use Rattle.cck_files.specs.FileState.{IsQuiet, fault_count};
@@ -118,6 +119,32 @@ fn statuses_by<R: Files + AllocGlobal>(
     Ok(found)
 }
 
+// What was gathered: these files, what was found of their paths, whether a name is in doubt, and the tests.
+fn gathered_of(
+    files: MapFiles,
+    found: TextStatuses,
+    is_doubtful: bool,
+    tests: Vec<PathTest>,
+    asked_tests: Vec<PathTest>,
+    unnamed_tests: Vec<PathTest>,
+) -> Gathered
+    ensures files { result.files ≡ files }
+    ensures statuses { result.statuses ≡ found.statuses }
+    ensures doubtful { result.is_doubtful ≡ (is_doubtful || found.is_doubtful) }
+    ensures tests { result.tests ≡ tests }
+    ensures asked { result.asked_tests ≡ asked_tests }
+    ensures unnamed { result.unnamed_tests ≡ unnamed_tests }
+{
+    Gathered {
+        files,
+        statuses: found.statuses,
+        is_doubtful: is_doubtful || found.is_doubtful,
+        tests,
+        asked_tests,
+        unnamed_tests,
+    }
+}
+
 // Reads the input and the files that a text names, and lists the tests of paths that must hold; or finds
 // why the compilation is not recorded.
 fn see_by<R: Files + AllocGlobal>(rt: &R, preprocessed: &Preprocessed<'_>) -> Result<Seen>
@@ -147,14 +174,14 @@ fn see_by<R: Files + AllocGlobal>(rt: &R, preprocessed: &Preprocessed<'_>) -> Re
         Unnamed::Refused(cause) => Ok(Seen::Refused(cause)),
         Unnamed::Tests(unnamed_tests) => {
             let found = statuses_by(rt, preprocessed)?;
-            Ok(Seen::Files(Gathered {
+            Ok(Seen::Files(gathered_of(
                 files,
-                statuses: found.statuses,
-                is_doubtful: is_doubtful | found.is_doubtful,
+                found,
+                is_doubtful,
                 tests,
                 asked_tests,
                 unnamed_tests,
-            }))
+            )))
         }
     }
 }
@@ -199,12 +226,20 @@ struct ReadRules {
     opened: Option<Vec<u8>>,
 }
 
+// The path of the dependency file by which it is judged what a compiler opened: that of the list of these files, where
+// there is one.
+fn opened_path<'a>(made: &Made<'a>) -> Option<&'a str>
+    ensures { result ≡ option_or made.now.opened made.now.dependencies }
+{
+    made.opened.or(made.dependencies)
+}
+
 // Reads the dependency files of what a compiler made.
 fn read_rules<R: Files + AllocGlobal>(rt: &R, made: &Made<'_>) -> io::Result<ReadRules> {
     let assembled = read_if_there(rt, made.assembled)?;
-    let written = made.opened.or(made.dependencies);
-    let opened = match written {
-        Some(_) => Some(read_if_there(rt, written)?),
+    let path = opened_path(made);
+    let opened = match path {
+        Some(_) => Some(read_if_there(rt, path)?),
         None => None,
     };
     Ok(ReadRules { assembled, opened })
@@ -391,14 +426,16 @@ fn made_shows_base(bases: &[Vec<u8>], made: &ObjectFile) -> bool
     shows_base(bases, &made.dependencies)
 }
 
-// The same of an object file, if there is one.
-fn object_shows_base(bases: &[Vec<u8>], object: Option<&ObjectFile>) -> bool
-    ensures { IsTrue result
-        ↔ ObjectShowsBase (lists_of bases.now) (option_map (λ o. o.now) object.entry) }
+// Why an object file, if there is one, is not recorded by these base directories.
+fn refusal_by_base(bases: &[Vec<u8>], object: Option<&ObjectFile>) -> Option<Refusal>
+    ensures { MatchOption result
+        (ObjectShowsBase (lists_of bases.now) (option_map (λ o. o.now) object.entry) → ⊥)
+        (λ refusal. (refusal ≡ BaseDirectory)
+        × ObjectShowsBase (lists_of bases.now) (option_map (λ o. o.now) object.entry)) }
 {
     match object {
-        Some(object) => made_shows_base(bases, object),
-        None => false,
+        Some(object) if made_shows_base(bases, object) => Some(Refusal::BaseDirectory),
+        _ => None,
     }
 }
 
@@ -414,8 +451,8 @@ fn keep<R: Files + AllocGlobal>(
     ensures { IfOk result (λ refusal. IfSome refusal (IsRefusedByBase (lists_of bases.now))) }
 {
     let object = object_of(rt, compilation, name)?;
-    if object_shows_base(bases, object.as_ref()) {
-        return Ok(Some(Refusal::BaseDirectory));
+    if let Some(refusal) = refusal_by_base(bases, object.as_ref()) {
+        return Ok(Some(refusal));
     }
     write_files(rt, store, compilation, object.as_ref(), name, file)?;
     Ok(None)

@@ -3,7 +3,7 @@ use Rattle.std.specs.Prelude.{◌≡◌, ℕ, ◌+◌, ◌==◌, ℤ, pos, List,
 use Rattle.std.specs.List.{filter_map, slice_split}
 use Rattle.cck_path.specs.Bytes.{Bytes}
 use Rattle.cck_command.specs.ScriptLines.{Reading, Wrong, Skipped, Says, read}
-use Rattle.cck_script.specs.Lines.{Line, Zone, Basedir, StoreForget, StoreFail}
+use Rattle.cck_script.specs.Lines.{Line, Zone, Basedir, StoreForget, StoreFail, first_or}
 use Rattle.cck_command.specs.declared.script.error.ScriptError.{ScriptError}
 use Rattle.cck_command.specs.declared.script.error.ScriptError.TheVariants as error
 

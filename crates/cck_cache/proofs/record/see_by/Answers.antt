@@ -45,6 +45,7 @@ returns-in-Refused-others g c =
 
 pub returns-in_ok-found-in-Tests-others : goal.returns-in_ok-found-in-Tests-others
 returns-in_ok-found-in-Tests-others g c =
+    let is = c.gathered_of.ensures in
     let request = c.args.preprocessed.now.request.now in
     let since = c.args.preprocessed.now.since in
     let printed = c.args.preprocessed.now.printed.now in
@@ -77,7 +78,8 @@ returns-in_ok-found-in-Tests-others g c =
     let first = keeps_all after middle compared c.in_ok-tested.ensures.keeps c.in_ok-may_have_copies.ensures.keeps in
     let keeps = keeps_all after compared new first c.in_ok-others.ensures.keeps in
     let no_copies = subst (λ (m : FileMap). IsCopiesVerdict m request text false) c.in_ok-tested.ensures.keeps.same_map (rw c.if-branch.false at c.in_ok-may_have_copies.ensures.found) in
-    let there : HasUnnamedTests request since printed text after.files others = subst (λ (m : FileMap). HasUnnamedTests request since printed text m others) first.same_map unnamed in (
+    let there : HasUnnamedTests request since printed text after.files others = subst (λ (m : FileMap). HasUnnamedTests request since printed text m others) first.same_map unnamed in
+    rw (is.files, is.tests, is.asked, is.unnamed) (
       gathered_over request since printed text after.files new.files made tests others keeps.same_map are no_copies path_tests tested there,
       calm_kept after new keeps (calm_grown text cwd before after c.in_ok-is_doubtful.ensures.named c.in_ok-files.ensures.calm),
     )
