@@ -9,7 +9,7 @@ use Rattle.cck_cache_text.specs.SearchList.{SearchFields}
 use Rattle.cck_cache_rules.specs.declared.path_test.PathTest.{PathTest}
 use Rattle.cck_cache_rules.specs.declared.path_test.PathTest.TheVariants as program
 use Rattle.cck_cache_files.specs.Searched.{AddsDirectory, IsPlaceOf}
-use Rattle.cck_cache_files.specs.declared.searched.Identity.{Identity}
+use Rattle.cck_cache_files.specs.declared.identity.Identity.{Identity}
 use Rattle.cck_path.specs.Bytes.{Bytes, lists_of}
 use Rattle.cck_path.specs.Text.{join_path}
 use Rattle.cck_cache_paths.specs.Searched.{AddsRight, AddsWrong, IsRight, IsWrong, is_expected, one_added}

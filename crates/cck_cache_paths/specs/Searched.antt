@@ -3,7 +3,7 @@ use Rattle.std.specs.Prelude.{◌≡◌, ◌⊎◌, ℕ, Bool, true, false, ◌=
 use Rattle.cck_cache_rules.specs.PathTest.{Test, Searched}
 use Rattle.cck_cache_text.specs.SearchList.{SearchFields}
 use Rattle.cck_cache_files.specs.Searched.{IsFirstSame, IsPlaceOf}
-use Rattle.cck_cache_files.specs.declared.searched.Identity.{Identity}
+use Rattle.cck_cache_files.specs.declared.identity.Identity.{Identity}
 use Rattle.cck_path.specs.Bytes.{Bytes}
 use Rattle.cck_path.specs.Text.{join_path}
 
