@@ -55,6 +55,8 @@ class Room:
         subprocess.run(["gcc", "-c", source, "-o", plain], **how)
         if done.returncode or done.stderr or done.stdout:
             return f"status {done.returncode}, {done.stderr}"
+        if not plain.exists():
+            return "an object where the compiler makes none"
         if made.read_bytes() != plain.read_bytes() or made.stat().st_mode != plain.stat().st_mode:
             return "another object or mode"
         return (home / "log").read_text().splitlines()[-1].split()[1]
@@ -111,6 +113,26 @@ def alone(place):
         yield f"its modes, {mode:o}", not any(path.stat().st_mode & 0o022 for path in room.store.rglob("*"))
 
 
+def unreadable(place):
+    """What a user may not read is no hit for that user, though it is as it was recorded."""
+    for label, name, mode, text, variables in (
+            ("a header of its owner", "h.h", 0o600, '#include "h.h"\n', {}),
+            ("a header of its group", "h.h", 0o640, '#include "h.h"\n', {}),
+            ("a header for which a source tests", "h.h", 0o600, '#if __has_include("h.h")\nint u;\n#endif\n', {}),
+            ("a directory of the search list", "d", 0o700, "#include <g.h>\n", {"CPATH": "d:g"})):
+        room = Room(tempfile.mkdtemp(dir=place), 0o755, FIRST)
+        for directory in ("d", "g"):
+            (room.place / directory).mkdir()
+        for path, contents in (("u.c", text), ("h.h", "int h;\n"), ("g/g.h", "int g;\n")):
+            (room.place / path).write_text(contents)
+        os.chown(room.place / name, FIRST, FIRST)
+        (room.place / name).chmod(mode)
+        yield f"{label}, recorded", room.call(FIRST, "u.c", **variables) == "recorded"
+        yield f"{label}, found again", room.call(FIRST, "u.c", **variables) == "hit"
+        said = room.call(SECOND, "u.c", groups=(), **variables)
+        yield f"{label}, by another user: {said}", said != "hit" and not said.startswith("an")
+
+
 def main():
     need_program()
     if os.geteuid():
@@ -118,7 +140,7 @@ def main():
     passed, failed = 0, 0
     with tempfile.TemporaryDirectory() as place:
         os.chmod(place, 0o755)
-        for part in (by_group, by_umask, alone):
+        for part in (by_group, by_umask, alone, unreadable):
             for name, is_right in part(place):
                 passed, failed = passed + bool(is_right), failed + (not is_right)
                 if not is_right:
