@@ -163,6 +163,40 @@ def touched(store):
     check("hits", hits == 5, hits)
 
 
+def touched_place(store):
+    """A hit by the second entry file of a key sets the time of that one, and not of the first."""
+    for state in (1, 2):
+        with open("t.h", "w", encoding="ascii") as file:
+            file.write(f"static int t = {state};\n")
+        with open("t.c", "w", encoding="ascii") as file:
+            file.write('#include "t.h"\nint g(void) { return t; }\n')
+        time.sleep(0.05)
+        compile_("t.c", "t.o", store, None)
+    paths = [path for files in stored(store).values() for path, _ in files if "/entries/" in path]
+    check("two entry files of a key", sorted(path.endswith(".1") for path in paths) == [False, True], paths)
+    now = time.time()
+    for path in paths:
+        os.utime(path, (now - 2 * DAY, now - 2 * DAY))
+    compile_("t.c", "t.o", store, None)
+    is_now = {path.endswith(".1"): os.stat(path).st_mtime >= now - 1 for path in paths}
+    check("the time of the entry file that was found", is_now == {True: True, False: False}, is_now)
+
+
+def limited_place(store):
+    """The entry file that is written at the second place of a key stays, however small the limit is."""
+    for state in (1, 2):
+        with open("u.h", "w", encoding="ascii") as file:
+            file.write(f"static int u = {state};\n")
+        with open("u.c", "w", encoding="ascii") as file:
+            file.write('#include "u.h"\nint h(void) { return u; }\n')
+        time.sleep(0.05)
+        compile_("u.c", "u.o", store, str(SHARES))
+    paths = [path for files in stored(store).values() for path, _ in files if "/entries/" in path]
+    check("the entry file at the second place", any(path.endswith(".1") for path in paths), paths)
+    compile_("u.c", "u.o", store, str(SHARES))
+    check("a hit by it", contents(store + ".log").count(b"cckcc: hit") == 1)
+
+
 def main():
     if not os.path.exists(PROGRAM):
         sys.exit(f"{PROGRAM}: not there")
@@ -173,6 +207,8 @@ def main():
         shown(store)
         cleared(store)
         touched(store)
+        touched_place(room + "/places")
+        limited_place(room + "/small")
         os.chdir("/")
     print(f"real_limit: {outcomes.count(True)} passed, {outcomes.count(False)} failed")
     sys.exit(0 if all(outcomes) else 1)
