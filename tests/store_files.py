@@ -228,6 +228,85 @@ def compare_unread(room, files):
           and last == b"verified %d files, removed 0" % len(files) and error.startswith(b"error: 2 files "), done)
 
 
+def pass_over(store, files):
+    """A file among the directories of the store, and a link, are no files of the store."""
+    stray, link = store / "entries/stray", files[0].with_name("0" * 64)
+    stray.write_bytes(b"x")
+    link.symlink_to(files[0])
+    done = run([PROGRAM, "verify", store])
+    wanted = b"verified %d files, removed 0\n" % len(files)
+    check("verify, a stray file and a link", (done.returncode, done.stdout) == (0, wanted), done)
+    done = run([PROGRAM, "stats", store])
+    numbers = [b"%s %d " % (kind.encode(), sum(path.parts[-3] == kind for path in files)) for kind in KINDS]
+    check("stats, a stray file and a link", done.returncode == 0 and all(number in done.stdout for number in numbers), done)
+    check("what is passed over is left", stray.exists() and link.is_symlink())
+    stray.unlink()
+    link.unlink()
+
+
+def tell_damages(room, store):
+    """What a look-up that misses tells of damaged files, in the log, and what is counted."""
+    log = room / "damages.log"
+    os.environ.update(CCK_STORE=str(store), CCK_LOG=str(log))
+
+    def told(label, wanted, verdict="recorded"):
+        """Calls, and tests what is told after the key and the time, and what the call is found to be."""
+        log.write_text("")
+        done = run([WRAPPER, "gcc", "-MD", "-c", "l.c"], cwd=room)
+        lines = [line.split(" ") for line in log.read_text().splitlines()]
+        found = [line[5:-1] for line in lines if line[1:3] == ["look:", "miss"]]
+        check(f"told, {label}", (done.returncode, found, lines[-1][1]) == (0, wanted, verdict), (found, lines))
+        return [line[4] for line in lines if line[1] == "why" and line[3] == "damaged"]
+
+    (room / "l.c").write_text('#include "l.h"\nint l = L;\n')
+    for state in (1, 2):
+        (room / "l.h").write_text(f"#define L {state}\n")
+        time.sleep(PAUSE)
+        told(f"nothing is damaged, {state}", [[]])
+    first, second = sorted((path for path in (store / "entries").rglob("*") if path.is_file()), key=lambda path: path.name)
+    held = first.read_bytes(), second.read_bytes()
+    found = max((path for path in (store / "objects").rglob("*") if path.is_file()), key=lambda path: path.stat().st_mtime_ns)
+    second.write_bytes(b"x")
+    told("the second entry file", [["damaged", str(second)]])
+    first.write_bytes(b"x")
+    second.write_bytes(b"x")
+    causes = told("two entry files", [["damaged", str(first)]])
+    check("told, why there is no hit", causes == [str(first), str(second)], causes)
+    first.write_bytes(held[0])
+    second.write_bytes(held[1])
+    found.write_bytes(b"x")
+    told("the object", [["object", found.name, "damaged", str(found)]])
+    found.write_bytes(with_frames(found, lambda parts: [*parts[:3], b""]))
+    told("an object without the dependencies", [["object", found.name]])
+    check("told, the dependency file", (room / "l.d").read_text().endswith(" l.h\n"))
+    told("nothing", [], "hit")
+    for path in (first, second):
+        path.unlink()
+    told("the entry files are gone", [[]], "hit")
+    check("a recording of an entry alone is not counted", (store / "counts/recorded").stat().st_size == 6)
+    names = [line.split()[1] for line in run([PROGRAM, "stats", store]).stdout.splitlines() if line.startswith(b"count ")]
+    check("stats, the order of the counts", len(names) > 2 and names == sorted(names), names)
+    check("damaged files of a store are none of a server", not list((store / "counts").glob("server-*")))
+    del os.environ["CCK_LOG"]
+
+
+# Words that are wrong together, or one of them, and what is said of them.
+WRONG_WORDS = [
+    (["unpack", "store", "--name=a", "--out=b", "--packed=c", "--server=only"], b"--packed without --server"),
+    (["unpack", "store", "--name=a", "--out=b", "--packed=c", "--verify-key=k"], b"--verify-key come with --server"),
+    (["unpack", "store", "--name=a", "--out=b", "--packed=c", "--address=k"], b"--verify-key come with --server"),
+    (["seal", "entry", "a", "--expanded=x"], b"is a number of bytes"),
+    (["prune", "store", "--max-size=-1"], b"is a number of bytes"),
+]
+
+
+def refuse_words(room):
+    """Words that the program refuses, before it does anything."""
+    for words, text in WRONG_WORDS:
+        done = run([PROGRAM, *words], cwd=room, input=b"")
+        check(f"refused: {words}", done.returncode == 2 and not done.stdout and text in done.stderr, done)
+
+
 def damage_digest(room, store):
     """Exchanges the file of a compiler's digest for that of another name: the next call makes it anew."""
     path, = (store / "digests").iterdir()
@@ -246,6 +325,10 @@ def main():
         files = fill(room, store)
         compare_listings(store, files)
         compare_damages(store, files)
+        pass_over(store, files)
+        refuse_words(room)
+        tell_damages(room, room / "told")
+        os.environ["CCK_STORE"] = str(store)
         compare_unread(room, files)
         damage_digest(room, store)
     failed = outcomes.count(False)
