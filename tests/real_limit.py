@@ -183,8 +183,14 @@ def touched_place(store):
 
 
 def limited_place(store):
-    """The entry file that is written at the second place of a key stays, however small the limit is."""
+    """The entry file that is written at the second place of a key stays, however small the limit is. What another process
+    is writing stays too, and what a killed one left an hour ago goes."""
     for state in (1, 2):
+        for path in [path for files in stored(store).values() for path, _ in files if "/entries/" in path]:
+            for name, age in ((".new1", 2 * 3600), (".new2", 60)):
+                with open(path + name, "wb") as file:
+                    file.write(b"x")
+                os.utime(path + name, (time.time() - age, time.time() - age))
         with open("u.h", "w", encoding="ascii") as file:
             file.write(f"static int u = {state};\n")
         with open("u.c", "w", encoding="ascii") as file:
@@ -193,6 +199,8 @@ def limited_place(store):
         compile_("u.c", "u.o", store, str(SHARES))
     paths = [path for files in stored(store).values() for path, _ in files if "/entries/" in path]
     check("the entry file at the second place", any(path.endswith(".1") for path in paths), paths)
+    written = [path.rsplit(".", 1)[1] for path in paths if ".new" in path]
+    check("what is being written", written == ["new2"], written)
     compile_("u.c", "u.o", store, str(SHARES))
     check("a hit by it", contents(store + ".log").count(b"cckcc: hit") == 1)
 

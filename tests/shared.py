@@ -40,9 +40,9 @@ class Room:
         os.chown(self.store, owner, group)
         self.store.chmod(mode)
 
-    def call(self, user, source, groups=(GROUP,), umask=0o022, **variables):
+    def call(self, user, source, groups=(GROUP,), umask=0o022, compiler="gcc", held=False, **variables):
         """The first word of the last line of the log of a call by a user, if its object is the compiler's and has the mode of
-        the umask; otherwise what is wrong."""
+        the umask; otherwise what is wrong. One that is held is there before, as a file of root that the user may not write."""
         home = self.place / str(user)
         env = {"PATH": f"{self.place}/bin:{os.environ['PATH']}", "HOME": str(home), "CCK_STORE": str(self.store),
                "CCK_LOG": str(home / "log"), **variables}
@@ -51,8 +51,11 @@ class Room:
         made, plain = home / "made.o", home / "plain.o"
         for path in (made, plain, home / "log"):
             path.unlink(missing_ok=True)
-        done = subprocess.run(["cckcc", "gcc", "-c", source, "-o", made], **how)
-        subprocess.run(["gcc", "-c", source, "-o", plain], **how)
+        for path in (made, plain) if held else ():
+            path.write_bytes(b"held")
+            path.chmod(0o444)
+        done = subprocess.run(["cckcc", compiler, "-c", source, "-o", made], **how)
+        subprocess.run([compiler, "-c", source, "-o", plain], **how)
         if done.returncode or done.stderr or done.stdout:
             return f"status {done.returncode}, {done.stderr}"
         if not plain.exists():
@@ -133,6 +136,32 @@ def unreadable(place):
         yield f"{label}, by another user: {said}", said != "hit" and not said.startswith("an")
 
 
+def unwritable(place):
+    """clang makes no object in the place of one that the user may not write, so there is no hit."""
+    room = Room(tempfile.mkdtemp(dir=place), 0o755, FIRST)
+    if not shutil.which("clang"):
+        return
+    for wanted in ("recorded", "hit"):
+        yield f"clang, {wanted}", room.call(FIRST, "x.c", compiler="clang") == wanted
+    said = room.call(FIRST, "x.c", compiler="clang", held=True)
+    yield f"clang, an object that the user may not write: {said}", said.startswith("status 1")
+
+
+def executable(place):
+    """A compiler earlier in PATH that its group alone may execute is not passed over."""
+    room = Room(tempfile.mkdtemp(dir=place), 0o755, FIRST)
+    (room.place / "p").mkdir()
+    path = {"PATH": f"{room.place}/bin:{room.place}/p:{os.environ['PATH']}"}
+    for wanted in ("recorded", "hit"):
+        yield f"no compiler of a group, {wanted}", room.call(FIRST, "x.c", **path) == wanted
+    compiler = room.place / "p/gcc"
+    compiler.write_text('#!/bin/sh\nexec /usr/bin/gcc -Dx=y "$@"\n')
+    os.chown(compiler, 0, GROUP)
+    compiler.chmod(0o750)
+    said = room.call(FIRST, "x.c", **path)
+    yield f"a compiler of a group: {said}", said == "passed"
+
+
 def main():
     need_program()
     if os.geteuid():
@@ -140,7 +169,7 @@ def main():
     passed, failed = 0, 0
     with tempfile.TemporaryDirectory() as place:
         os.chmod(place, 0o755)
-        for part in (by_group, by_umask, alone, unreadable):
+        for part in (by_group, by_umask, alone, unreadable, unwritable, executable):
             for name, is_right in part(place):
                 passed, failed = passed + bool(is_right), failed + (not is_right)
                 if not is_right:
