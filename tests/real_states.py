@@ -113,12 +113,13 @@ def many_states(project):
     most = max(project.entry_files().values())
     if most != ENTRY_FILES:
         return f"a key has {most} entry files"
-    for state in range(ENTRY_FILES + 3, ENTRY_FILES - 1, -1):
+    for state in range(ENTRY_FILES + 3, ENTRY_FILES - 2, -1):
         project.switch(state)
         if not project.build():
             return f"state {state} again: another output"
     words = project.logged()
-    return None if words["hit"] == 4 * SOURCES else f"the last states: {dict(words)}"
+    # The first of these is in the last of the places.
+    return None if words["hit"] == 5 * SOURCES else f"the last states: {dict(words)}"
 
 
 def at_once(project):
