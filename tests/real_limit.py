@@ -183,14 +183,18 @@ def touched_place(store):
 
 
 def limited_place(store):
-    """The entry file that is written at the second place of a key stays, however small the limit is. What another process
-    is writing stays too, and what a killed one left an hour ago goes."""
+    """The entry file that is written at the second place of a key stays, however small the limit is, and counts: another
+    file that fits alone goes. What another process is writing stays, and what a killed one left an hour ago goes."""
+    others = []
     for state in (1, 2):
         for path in [path for files in stored(store).values() for path, _ in files if "/entries/" in path]:
             for name, age in ((".new1", 2 * 3600), (".new2", 60)):
                 with open(path + name, "wb") as file:
                     file.write(b"x")
                 os.utime(path + name, (time.time() - age, time.time() - age))
+            others.append(os.path.join(os.path.dirname(path), os.path.basename(path)[:2] + "0" * 62))
+            with open(others[0], "wb") as file:
+                file.write(b"x")
         with open("u.h", "w", encoding="ascii") as file:
             file.write(f"static int u = {state};\n")
         with open("u.c", "w", encoding="ascii") as file:
@@ -201,6 +205,7 @@ def limited_place(store):
     check("the entry file at the second place", any(path.endswith(".1") for path in paths), paths)
     written = [path.rsplit(".", 1)[1] for path in paths if ".new" in path]
     check("what is being written", written == ["new2"], written)
+    check("a file that fits alone", others and not os.path.exists(others[0]))
     compile_("u.c", "u.o", store, str(SHARES))
     check("a hit by it", contents(store + ".log").count(b"cckcc: hit") == 1)
 
