@@ -1,7 +1,9 @@
 -- what a look-up finds
-use Rattle.std.proofs.Common.{◌≡◌, ◌∙◌, [], ℕ, Bool, List, Option, Some, String, false, refl, string_bytes, true, IfSome, sym, ap, subst}
+use Rattle.std.proofs.Common.{◌≡◌, ◌∙◌, [], ℕ, Bool, List, None, Option, Some, String, false, inl, inr, refl, string_bytes, true, IfSome, sym, ap, subst}
+use Rattle.std.specs.Global.{Vec}
 use Rattle.std.specs.declared.alloc.Global.{Global}
-use Rattle.cck_cache.specs.Look.{IsFoundFor, IsKeptObject, IsLookResult, IsLooked, IsNameOf, IsPlace}
+use Rattle.cck_cache.specs.Look.{IsFoundFor, IsGivenEntry, IsGivenObject, IsKeptObject, IsLookResult, IsLooked, IsNameOf, IsObjectIn, IsPlace, IsWrong}
+use Rattle.cck_cache.specs.Outputs.{has_outputs}
 use Rattle.cck_cache.specs.Request.{HasPreprocessorKey}
 use Rattle.cck_cache.specs.declared.environment.Environment.{Environment}
 use Rattle.cck_cache.specs.declared.look.Found.{Found}
@@ -10,9 +12,19 @@ use Rattle.cck_cache.specs.declared.look.Looked.{Looked}
 use Rattle.cck_cache.specs.declared.look.Looked.TheVariants.{Object, Missed}
 use Rattle.cck_cache.specs.declared.look.LookUp.{LookUp}
 use Rattle.cck_cache_arguments.specs.declared.task.Look.{Look}
+use Rattle.cck_cache_arguments.specs.declared.task.Outputs.{Outputs}
 use Rattle.cck_cache_files.specs.PathStatuses.{AreAsRecorded}
+use Rattle.cck_cache_files.specs.declared.store_directory.Kind.{Kind}
+use Rattle.cck_cache_files.specs.declared.store_directory.Kind.TheVariants as kind
+use Rattle.cck_cache_rules.specs.Contents.{ReadsFor, key_of_entry, key_of_object}
+use Rattle.cck_cache_rules.specs.Files.{EntryFields, IsEntryFile, entry_file, object_fields, object_file}
 use Rattle.cck_cache_rules.specs.PathStatus.{Status, statuses_of}
+use Rattle.cck_cache_rules.specs.Reading.{IsAny}
+use Rattle.cck_cache_rules.specs.declared.object_file.ObjectFile.{ObjectFile}
 use Rattle.cck_cache_rules.specs.declared.path_status.PathStatus.{PathStatus}
+use Rattle.cck_cache_server.specs.Given.{IsGiven}
+use Rattle.cck_cache_server.specs.declared.given.Given.TheVariants as given
+use Rattle.cck_path.specs.Bytes.{Bytes}
 use Rattle.cck_entry.specs.Statuses.{Statuses}
 use Rattle.cck_hasher.proofs.Elements.{none_in}
 
@@ -37,6 +49,31 @@ looked_kept lookup place name (Object p n object) small is kept = (
   kept.3,
 )
 looked_kept lookup place name (Missed missed) small is kept = subst (λ (x : Option (String Global)). IfSome x (IsNameOf lookup)) (sym kept) is
+
+-- bytes of no object file of a name
+pub damaged_in : (outputs : Outputs) (name bytes : Bytes) (file : String Global) (looked : Looked) → IsWrong (Some file) None looked
+    → ReadsFor IsAny key_of_object object_file name bytes None → IsObjectIn outputs name bytes file looked
+damaged_in outputs name bytes file (Object place n object) wrong none = absurd wrong
+damaged_in outputs name bytes file (Missed missed) wrong none = (wrong.1, inl (wrong.0, none))
+
+-- an object file that lacks an output
+pub lacking_in : (outputs : Outputs) (name bytes : Bytes) (file : String Global) (object : ObjectFile) (looked : Looked) → IsWrong None None looked
+    → ReadsFor IsAny key_of_object object_file name bytes (Some (object_fields object)) → has_outputs outputs object ≡ false → IsObjectIn outputs name bytes file looked
+lacking_in outputs name bytes file object (Object place n o) wrong read lacks = absurd wrong
+lacking_in outputs name bytes file object (Missed missed) wrong read lacks = (wrong.1, inr (wrong.0, (object, read, lacks)))
+
+-- an object file that a server gave, or none
+pub object_given : (Has : Kind → Bytes → Bytes → Type 0) (key : Option Bytes) (outputs : Outputs) (name : Bytes) (bytes : Vec ℕ) (file : String Global) (looked : Looked)
+    → IsGiven (Has kind.Object name) key kind.Object name (given.File bytes) → IsObjectIn outputs name bytes.items file looked → IsGivenObject Has key name looked
+object_given Has key outputs name bytes file (Object place n object) is read = (bytes, is, read)
+object_given Has key outputs name bytes file (Missed missed) is read =
+    subst (λ (o : Option (String Global)). IfSome o (λ (value : String Global). IsGiven (Has kind.Object name) key kind.Object name given.Forged)) (sym read.0) tt
+
+-- what was found by an entry file that a server gave
+pub entry_given : (Has : Kind → Bytes → Bytes → Type 0) (key : Option Bytes) (name : Bytes) (bytes : Vec ℕ) (fields : EntryFields) (looked : Looked)
+    → IsGiven (Has kind.Entry name) key kind.Entry name (given.File bytes) → ReadsFor IsEntryFile key_of_entry entry_file name bytes.items (Some fields) → IsGivenEntry Has key name looked
+entry_given Has key name bytes fields (Object place n object) is read = (bytes, is, (fields, read))
+entry_given Has key name bytes fields (Missed missed) is read = tt
 
 -- the result for the preprocessor key of a request is the result for the request
 pub found_all : (environment : Environment) (wanted : Look) (key : String Global) (has : HasPreprocessorKey environment wanted.request (Some (string_bytes key))) (found : Found)

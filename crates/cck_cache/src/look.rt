@@ -220,6 +220,7 @@ fn forged_found(object_name: Option<String>, forged: String) -> Looked
 // What these bytes of a file hold of the object of a name, for the entry file at a place if they are the store's. An object
 // file without what is to be written counts as absent, so that it is recorded again. `file` is what is damaged where these
 // are other bytes.
+#[tactic(auto, using(crate::proofs::LookLemmas::damaged_in, crate::proofs::LookLemmas::lacking_in))]
 fn object_found(
     alloc: Global,
     outputs: &Outputs<'_>,
@@ -231,14 +232,16 @@ fn object_found(
     ensures kept { IfOk result (IsKeptObject outputs.now place name) }
     ensures read { IfOk result (IsObjectIn outputs.now (string_bytes name) bytes.now file) }
 {
-    Ok(match object_in(alloc, name.as_str(), bytes)? {
-        Some(object) if has_outputs(&object, outputs) => Looked::Object {
-            place,
-            name,
-            object,
-        },
-        Some(_) => nothing_found(Some(name)),
-        None => damaged_found(Some(name), file),
+    let Some(object) = object_in(alloc, name.as_str(), bytes)? else {
+        return Ok(damaged_found(Some(name), file));
+    };
+    if !has_outputs(&object, outputs) {
+        return Ok(nothing_found(Some(name)));
+    }
+    Ok(Looked::Object {
+        place,
+        name,
+        object,
     })
 }
 
