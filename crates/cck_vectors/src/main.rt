@@ -13,10 +13,7 @@ mod call_cases;
 mod file_cases;
 mod script_cases;
 
-use crate::call_cases::{Calls, examples};
-use crate::file_cases::{FileCases, WalkCases};
-use crate::script_cases::Scripts;
-use cck_cases::run_file;
+use crate::call_cases::examples;
 use std::process::ExitCode;
 use std::{env, io};
 
@@ -43,10 +40,10 @@ fn run_word(rt: &HostRuntime, name: &str) -> io::Result<bool> {
     }
     match folder_of(name) {
         "values" => cck_cases::run_value_file(rt, name),
-        "files" => run_file::<FileCases>(rt, name),
-        "walks" => run_file::<WalkCases>(rt, name),
-        "calls" => run_file::<Calls>(rt, name),
-        "scripts" => run_file::<Scripts>(rt, name),
+        "files" => file_cases::run_file(rt, name),
+        "walks" => file_cases::run_walk_file(rt, name),
+        "calls" => call_cases::run_file(rt, name),
+        "scripts" => script_cases::run_file(rt, name),
         _ => Err(io::Error::from(io::ErrorKind::NotFound)),
     }
 }
