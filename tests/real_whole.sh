@@ -5,14 +5,14 @@
 # What the first build recorded hits in the second, and what the third recorded in the last. Where there is ccache, its
 # hits in a second build are counted too.
 # COMPILER is gcc or clang, by default gcc; C++ is compiled by g++ or clang++. The words are the names of projects, by
-# default all: in C musl with debug information, OpenSSL, and Linux in a small configuration of 64 bits; in C++
+# default all: in C musl with debug information, OpenSSL, and FFmpeg and Linux in small configurations; in C++
 # range-v3, by CMake and Ninja, Aspell, by a configure script and make, and libsigc++, by Meson. KEEP names a directory
 # for logs. Run by hand; needs the compiler, make, perl, flex, bison, bc, the headers of libelf, CMake, Ninja, Meson
 # and Debian's package archive. Its last line is 'all passed'.
 set -eu
 top=$(cd "$(dirname "$0")/.." && pwd)
 . "$top/tests/real/common.sh"
-[ $# -gt 0 ] || set -- musl openssl linux range-v3 aspell libsigc++-3.0
+[ $# -gt 0 ] || set -- musl openssl ffmpeg linux range-v3 aspell libsigc++-3.0
 [ -n "${CCK_SOURCES-}" ] || download "$@"
 jobs=${JOBS:-4}
 cc=${COMPILER:-gcc}
@@ -50,6 +50,10 @@ configure() {
     case $1 in
     musl) ./configure --enable-debug CC="$cc" ;;
     openssl) ./Configure linux-x86_64 CC="$cc" ;;
+    ffmpeg)
+        ./configure --cc="$cc" --disable-x86asm --disable-doc --disable-autodetect --disable-everything \
+            --enable-decoder=h264,aac --enable-demuxer=mov --enable-muxer=null --enable-protocol=file
+        ;;
     linux)
         tree=$room/tree
         make O="$tree" CC="$cc" tinyconfig
@@ -80,7 +84,7 @@ build() {
     : >"$CCK_LOG"
     CACHE=$2
     case $1 in
-    musl | aspell) make -s clean && make -s -j "$jobs" ;;
+    musl | ffmpeg | aspell) make -s clean && make -s -j "$jobs" ;;
     openssl)
         # (each of the two goals runs make once more, so one comes after the other)
         make -s clean && make -s -j "$jobs" build_libs && make -s -j "$jobs" build_programs
@@ -102,6 +106,7 @@ header() {
     case $1 in
     musl) echo include/features.h ;;
     openssl) echo include/openssl/e_os2.h ;;
+    ffmpeg) echo libavutil/attributes.h ;;
     linux) echo include/linux/types.h ;;
     range-v3) echo include/range/v3/range_fwd.hpp ;;
     aspell) echo common/string.hpp ;;

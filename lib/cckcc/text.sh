@@ -43,6 +43,11 @@ find_own() {
 # those of all names that a file has in brackets after what may be such a macro; and no file and no macro may have two words
 # that make the macro's name, of which those are kept that have a part of its end. `goes_on` says whether a raw string may go
 # on in the next line: what looks like its beginning counts in a string too.
+#
+# A file has nothing for `read_line` unless it has what `telling` matches, with splices, or a byte that is zero, where grep takes
+# it apart (`find_relevant`): letters of a name may have others than letters between them. The status of that function is 0 if
+# it does not know: then each file is read. `read_marker` takes what a line marker says after its number. One that says what the
+# last one said changes nothing, if it is of a file and neither enters nor leaves one.
 cck_reading='
     BEGIN {
         is_c = ENVIRON["cck_is_c"] != ""
@@ -55,6 +60,11 @@ cck_reading='
         comment = "/[*]([^*]|[*]+[^*/])*"
         gap = "(" blank "|" comment "[*]+/)*"
         marker = "^(.*[*]/)?" gap "(#|%:|[?][?]=)" gap "([0-9]|\\\\" blank "*$|" comment "[*]*$)"
+        other = "[^A-Za-z_]*"
+        telling = "[hp]" other "_" other "m" other "a" other "c" other "r" other "o" \
+            "|a" other "s" other "_" other "b" other "u" other "i" other "l" other "t" other "i" other "n" \
+            "|(^|[^A-Za-z0-9_$])__ha|a32|builtin_ia|[?][?]/|[A-Za-z0-9_?%][\\][[:cntrl:] ]" \
+            "|(#|%:|[?][?]=)[[:space:]]*([0-9/]|[\\])"
     }
     function read_line(line, whole) {
         if (is_assembler && (line ~ /as_inc|as_emb|HAS_INC/ || line ~ first_of_test)) reason = "header-test"
@@ -71,7 +81,7 @@ cck_reading='
             if (whole ~ /ia32|a32_|builtin_ia3?([^A-Za-z0-9_]|$)/) targets = 1
             if (match(whole, /__ha|as_inc|as_emb|HAS_INC/) && substr(whole, 1, RSTART - 1) !~ /#|%:|[?][?]=/) tests = 1
         }
-        gsub(/[^A-Za-z_]/, "", line)
+        gsub(/[^A-Za-z_]+/, "", line)
         letters = substr(letters, length(letters) - 10) line
         if (index(letters, "as_builtin")) asks = 1
         if (letters !~ /[hp]_macro/) return
@@ -128,18 +138,81 @@ cck_reading='
         }
         return close(file) != 0
     }
+    function path_of(name) { return name ~ /^\// ? name : "./" name }
     function read_file(name, file, line, held, is_later) {
-        file = name ~ /^\// ? name : "./" name
+        file = path_of(name)
         letters = ""
-        if (name ~ /^\/dev\//) asks = unread = 1
-        else while ((getline line < file) > 0) {
+        if (name ~ /^\/dev\//) { asks = unread = 1; return }
+        while ((getline line < file) > 0) {
             if (!is_later++) sub(/^\357\273\277/, "", line)
-            if (sub(/\\[ \t\r\f\013]*$/, "", line)) held = held line
+            if (index(line, "\\") && sub(/\\[ \t\r\f\013]*$/, "", line)) held = held line
             else { read_line(held line); held = "" }
         }
         read_line(held)
         if (opens) { asks = 1; opens = 0 }
         if (close(file) != 0) asks = unread = 1
+    }
+    function find_relevant(files, size, name, command, line, state, counted) {
+        for (name in projects) {
+            if (name ~ /^[A-Za-z0-9_.,+@%=\/-]+$/ && name !~ /^\/dev\// && length(files) < 50000) {
+                files = files " " path_of(name)
+                size++
+            } else relevant[path_of(name)]
+        }
+        if (!size) return 1
+        command = "{ grep -alzE \047" telling "\047" files "; echo $?; grep -aHcz \047\047" files "; } 2>/dev/null"
+        while ((command | getline line) > 0) {
+            if (line ~ /^[0-9]+$/) state = line
+            else if (state == "") relevant[line]
+            else {
+                counted++
+                if (line !~ /:[01]$/) { sub(/:[0-9]+$/, "", line); relevant[line] }
+            }
+        }
+        close(command)
+        return (state == "0" || state == "1") && counted == size
+    }
+    function add_marker(said, id, name, place, flags) {
+        ids[said] = id = ++markers
+        name = flags = said
+        sub(/.*"/, "", flags)
+        names[id] = name = substr(name, 2, length(name) - length(flags) - 2)
+        step_of[id] = substr(flags, 1, 2)
+        is_system[id] = flags ~ / 3/
+        if (index(name, "\\")) reason = "other-file"
+        place = name
+        if (is_clang) sub(/^\/usr\/bin\/\.\.\/lib\/gcc\/[^\/]+\/[0-9]+\/\.\.\/\.\.\/\.\.\/\.\.\/include\//, "/usr/include/", place)
+        is_own[id] = index(place, ENVIRON["cck_own"]) == 1 && place !~ /\/\.\.\//
+        is_of_project[id] = !is_own[id] && (index(place, "/usr/include/") != 1 || place ~ /\/\.\.\//)
+        is_inner[id] = name ~ /^<.*>$/
+        if (is_inner[id] || name ~ /\/\/$/) return
+        if (is_of_project[id]) projects[name]; else others[name]
+    }
+    function read_marker(said, id, name, step) {
+        if (said == settled) return
+        if (!(said in ids)) add_marker(said)
+        id = ids[said]
+        name = names[id]
+        step = step_of[id]
+        settled = step == " 1" || step == " 2" || is_inner[id] ? "" : said
+        if (is_clang && !in_input) {
+            if (name ~ /^<(built-in|command line)>$/) { current = name; return }
+            if (step == " 2") { in_input = 1; step = ""; current = name }
+        }
+        if (step == " 1") {
+            found = 1
+            if (owns[depth] && is_of_project[id]) reason = "target-pragma"
+            owns[++depth] = is_own[id]
+            if (name in systems && systems[name] != is_system[id]) reason = "other-file"
+            systems[name] = is_system[id]
+        } else if (step == " 2") {
+            if (depth > 0) depth--
+        } else if (name != current) {
+            if (in_input || depth > 0) marks = 1
+            else if (current == "<command-line>") in_input = 1
+        }
+        current = name
+        if (is_inner[id] && ($2 != 0 || name !~ /^<(built-in|command-line)>$/)) reason = "other-file"
     }
     function add_words(line) {
         while (match(line, /[A-Za-z_][A-Za-z0-9_]*/)) {
@@ -313,6 +386,7 @@ cck_judging='
     is_clang && (nesting > 0 || waits || /asm/) && !/^#/ { read_code($0) }
     is_clang && /(^|[^A-Za-z0-9_])(u8|u|U|L)?R"/ && !/^#/ && begins_raw($0) { has_raw = 1 }
     is_clang && has_raw && /^#/ && /asm/ { has_code = 1 }
+    /^# [0-9]+ "/ { read_marker(substr($0, index($0, "\""))); next }
     index($0, "R\"") && goes_on($0) { marks = 1 }
     /target/ && /(^|[^A-Za-z0-9_$])(__)?target(_clones)?(__)?[ \t]*([(]|$)/ { sets_targets = 1 }
     !/^[ \t]*#/ { next }
@@ -329,40 +403,6 @@ cck_judging='
     /^#define struct[ (]/ { reason = "header-test" }
     /^#define [^ (]+[(]([^)]*[ ,])?struct[ ,.)].*>[ \t]*struct/ { reason = "header-test" }
     /^#(include|include_next|import)[ \t].*>[ \t]*struct[ \t]*[0-9]/ { reason = "header-test" }
-    /^# [0-9]+ "/ {
-        flags = name = $0
-        sub(/.*"/, "", flags)
-        sub(/^# [0-9]+ "/, "", name)
-        name = substr(name, 1, length(name) - length(flags) - 1)
-        if (index(name, "\\")) reason = "other-file"
-        if (is_clang && !in_input) {
-            if (name ~ /^<(built-in|command line)>$/) { current = name; next }
-            if (flags ~ /^ 2/) { in_input = 1; flags = ""; current = name }
-        }
-        if (flags !~ /^ [12]/ && name != current) {
-            if (in_input || depth > 0) marks = 1
-            else if (current == "<command-line>") in_input = 1
-        }
-        current = name
-        is_system = flags ~ / 3/
-        place = name
-        if (is_clang) sub(/^\/usr\/bin\/\.\.\/lib\/gcc\/[^\/]+\/[0-9]+\/\.\.\/\.\.\/\.\.\/\.\.\/include\//, "/usr/include/", place)
-        is_own = index(place, ENVIRON["cck_own"]) == 1 && place !~ /\/\.\.\//
-        is_of_project = !is_own && (index(place, "/usr/include/") != 1 || place ~ /\/\.\.\//)
-        if (flags ~ /^ 1/) {
-            found = 1
-            if (owns[depth] && is_of_project) reason = "target-pragma"
-            owns[++depth] = is_own
-            if (name in systems && systems[name] != is_system) reason = "other-file"
-            systems[name] = is_system
-        }
-        if (flags ~ /^ 2/ && depth > 0) depth--
-        if (name ~ /^<.*>$/) {
-            if ($2 != 0 || name !~ /^<(built-in|command-line)>$/) reason = "other-file"
-        } else if (name !~ /\/\/$/) {
-            if (is_of_project) projects[name]; else others[name]
-        }
-    }
     !/^[ \t]*#[ \t]*pragma/ { next }
     is_clang && !/pragma[ \t]+(((GCC|clang)[ \t]+(diagnostic|system_header|poison|visibility)|weak|message|STDC|(push|pop)_macro)[ \t(]|pack[ \t]*[(][a-z0-9_, \t]*[)])/ {
         shows_time = 1
@@ -385,21 +425,25 @@ cck_judging='
     }
     END {
         print found ? "" : "alone"
-        if (reason == "") for (name in projects) read_file(name)
+        text = ENVIRON["cck_scratch"] "/text"
+        if (reason == "") {
+            reads_all = calls || is_assembler || ENVIRON["cck_extended"] != "" || !find_relevant()
+            for (name in projects) if (reads_all || (path_of(name) in relevant)) read_file(name)
+        }
         is_other = 1
         if (reason == "" && (calls || is_assembler)) for (name in others) if (!(name in projects)) read_file(name)
         if (unread && is_assembler) reason = "header-test"
         if (reason == "" && calls) {
-            read_file(FILENAME)
+            read_file(text)
             if (unread || is_pasted()) reason = "header-test"
         }
         if ((marks || hides) && doubts != "") reason = "target-pragma"
         if (ENVIRON["cck_targets"] != "") targets = 1
-        if (!asks && is_c && reason == "" && has_asked(FILENAME)) asks = 1
+        if (!asks && is_c && reason == "" && has_asked(text)) asks = 1
         if (!is_c || is_clang) asks = 0
         if (asks && ((targets && sets_targets) || silences)) reason = "other-file"
         if (tests && parallel && ENVIRON["cck_extended"] != "") reason = "header-test"
-        if (stands && is_macro(FILENAME)) reason = "header-test"
+        if (stands && is_macro(text)) reason = "header-test"
         if (nesting > 0 || (has_raw && has_code)) reason = "assembler-include"
         if (is_clang) write_places()
         print shows_time ? "time-macro" : reason
@@ -408,16 +452,26 @@ cck_judging='
         print "end"
     }'
 
+# Sets `cck_lines` to the path of a file with the lines of the text that count for gcc, or to that of the text, where there are
+# none or grep fails.
+list_lines() {
+    cck_lines=$cck_scratch/text
+    [ -z "$cck_is_clang" ] || return 0
+    GREP_OPTIONS= LC_ALL=C grep -a -e '^# [0-9]' -e '^[[:blank:]]*#[[:blank:]]*pragma' -e '^#.*struct' -e '^#.*__has_include' \
+        -e 'R"' -e target "$cck_scratch/text" > "$cck_scratch/lines" && cck_lines=$cck_scratch/lines
+}
+
 # Writes five lines: `alone` if the text names no file beside the input; why the compiler may read another text than this, or
 # have other names for its files; what it may read in another way; `all` if more may depend on macros than the text, where it
 # shows those that are used; and `end`. The compiler expands macros in pragmas that the preprocessor leaves as they are,
 # pragmas that save macros hide uses, and warnings may name others.
 judge_text() {
     true > "$cck_scratch/left-out"
+    list_lines
     cck_own=$cck_own cck_extended=$cck_extended cck_targets=$cck_targets cck_is_c=$cck_is_c cck_is_assembler=$cck_is_assembler \
-        cck_is_clang=$cck_is_clang cck_scratch=$cck_scratch cck_place=$(pwd -P) LC_ALL=C awk "$cck_reading$cck_judging" \
-        ${cck_is_clang:+is_rule=1 "$cck_scratch/text-listed" is_rule=0} "$cck_scratch/text-search" is_text=1 "$cck_scratch/text" \
-        < /dev/null
+        cck_is_clang=$cck_is_clang cck_scratch=$cck_scratch cck_place=${cck_is_clang:+$(pwd -P)} GREP_OPTIONS= LC_ALL=C \
+        awk "$cck_reading$cck_judging" ${cck_is_clang:+is_rule=1 "$cck_scratch/text-listed" is_rule=0} \
+        "$cck_scratch/text-search" is_text=1 "$cck_lines" < /dev/null
 }
 
 # Refuses a text of clang of which two files are one, or may become one: clang knows a file by its inode, passes it over by that,
