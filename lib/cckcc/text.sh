@@ -44,6 +44,7 @@ find_own() {
 # that make the macro's name, of which those are kept that have a part of its end. `goes_on` says whether a raw string may go
 # on in the next line: what looks like its beginning counts in a string too.
 #
+# An awk in which a string ends at a zero byte would not see what is after it, so that each text is refused.
 # A file has nothing for `read_line` unless it has what `telling` matches, with splices, or a byte that is zero, where grep takes
 # it apart (`find_relevant`): letters of a name may have others than letters between them. The status of that function is 0 if
 # it does not know: then each file is read. `read_marker` takes what a line marker says after its number. One that says what the
@@ -53,6 +54,7 @@ cck_reading='
         is_c = ENVIRON["cck_is_c"] != ""
         is_assembler = ENVIRON["cck_is_assembler"] != ""
         is_clang = ENVIRON["cck_is_clang"] != ""
+        if (length(sprintf("%c", 0)) != 1) reason = "other-file"
         known = "text|data|bss|previous|popsection|p2align|balign|align|byte|[248]byte|short|word|value|long|int|quad|ascii" \
             "|asciz|string|zero|skip|space|globl|global|weak|hidden|local|comm|type|size|set|symver|ident"
         first_of_test = "__ha(s(_(i(n(c(l(u(de?)?)?)?)?)?|e(m(b(ed?)?)?)?)?)?)?([^A-Za-z0-9_$]|$)"
@@ -282,7 +284,7 @@ cck_reading='
                 else if (sub(/^-I/, "", words[at])) name = words[at]
                 sub("/+$", "", name)
                 if (name != "") given[name]
-                if (name ~ /[/]c[+][+][/][0-9]+$/) plusplus++
+                if (name ~ /\/c[+][+]\/[0-9]+$/) plusplus++
             }
         }
     }
@@ -294,7 +296,7 @@ cck_reading='
         for (at = 1; at <= size; at++) passed[place_of(words[at])]
     }
     function place_of(name, size, words, at, place) {
-        if (name !~ /^[/]/) name = ENVIRON["cck_place"] "/" name
+        if (name !~ /^\//) name = ENVIRON["cck_place"] "/" name
         size = split(name, words, "/")
         for (at = 1; at <= size; at++) {
             if (words[at] == "..") sub("/[^/]*$", "", place)
