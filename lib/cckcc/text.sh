@@ -46,9 +46,9 @@ find_own() {
 #
 # An awk in which a string ends at a zero byte would not see what is after it, so that each text is refused.
 # A file has nothing for `read_line` unless it has what `telling` matches, with splices, or a byte that is zero, where grep takes
-# it apart (`find_relevant`): letters of a name may have others than letters between them. The status of that function is 0 if
-# it does not know: then each file is read. `read_marker` takes what a line marker says after its number. One that says what the
-# last one said changes nothing, if it is of a file and neither enters nor leaves one.
+# it apart (`find_relevant`): letters of a name may have others than letters between them. That function returns 0 where it does
+# not know: then each file is read. `read_marker` takes what a line marker says after its number. One that says what the last one
+# said changes nothing, if it is of a file and neither enters nor leaves one.
 cck_reading='
     BEGIN {
         is_c = ENVIRON["cck_is_c"] != ""
