@@ -2,23 +2,6 @@
 # recorded. It has set `cck_preprocessed`, the arguments of the preprocessor, `cck_input`, `cck_programs`, `cck_macros`, how
 # the text shows macros, and `cck_scratch`, the directory in which the text is written.
 
-# Runs the preprocessor on these words, and takes -pedantic-errors for -pedantic, which differs in errors alone: where it warns of
-# what is in system headers, extensions there would be errors. A word before it shows that it is no value of an option.
-preprocess_pedantic() {
-    cck_before=
-    for cck_argument do
-        shift
-        if [ "$cck_argument" = -pedantic-errors ]; then
-            case $cck_before in
-            ''|-[OWfg]*|-[DI]?*|-std=*|-pedantic) cck_argument=-pedantic ;;
-            esac
-        fi
-        cck_before=$cck_argument
-        set -- "$@" "$cck_argument"
-    done
-    LC_ALL=C "$cck_compiler" "$@"
-}
-
 # Preprocesses the input of the call into the file $1, with these further words of a shell. The list of directories is
 # read in the locale C. The preprocessor warns of each time macro that it expands, however that is spelled and wherever it
 # is: what a text shows of the time is in no key. In C extensions are not errors in system headers; in C++ -Wno-pedantic
@@ -31,11 +14,7 @@ preprocess() {
     cck_warnings='-fno-canonical-system-headers -Wno-pedantic'
     ! is_cplusplus || cck_warnings='-fno-canonical-system-headers -Wliteral-suffix'
     ! is_clang || cck_warnings='-MD -MT listed -MF "$cck_scratch/$1-listed"'
-    cck_preprocessor='LC_ALL=C "$cck_compiler"'
-    case $cck_preprocessed in
-    *-pedantic-errors*) cck_preprocessor=preprocess_pedantic ;;
-    esac
-    eval "$cck_preprocessor $cck_preprocessed" \
+    eval "LC_ALL=C \"\$cck_compiler\" $cck_preprocessed" \
         '-Wdate-time -Wsystem-headers -Wno-error' "$cck_warnings $cck_macros $2" \
         '-dI -E -v -o "$cck_scratch/$1"' < /dev/null 2> "$cck_scratch/$1-search" || true > "$cck_scratch/failed"
 }
