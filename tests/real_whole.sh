@@ -6,13 +6,13 @@
 # hits in a second build are counted too.
 # COMPILER is gcc or clang, by default gcc; C++ is compiled by g++ or clang++. The words are the names of projects, by
 # default all: in C musl with debug information, OpenSSL, and FFmpeg and Linux in small configurations; in C++
-# range-v3, by CMake and Ninja, Aspell, by a configure script and make, and libsigc++, by Meson. KEEP names a directory
-# for logs. Run by hand; needs the compiler, make, perl, flex, bison, bc, the headers of libelf, CMake, Ninja, Meson
-# and Debian's package archive. Its last line is 'all passed'.
+# range-v3, by CMake and Ninja, yaml-cpp, by CMake and make, Aspell, by a configure script and make, and libsigc++, by
+# Meson. KEEP names a directory for logs. Run by hand; needs the compiler, make, perl, flex, bison, bc, the headers of
+# libelf, CMake, Ninja, Meson and Debian's package archive. Its last line is 'all passed'.
 set -eu
 top=$(cd "$(dirname "$0")/.." && pwd)
 . "$top/tests/real/common.sh"
-[ $# -gt 0 ] || set -- musl openssl ffmpeg linux range-v3 aspell libsigc++-3.0
+[ $# -gt 0 ] || set -- musl openssl ffmpeg linux range-v3 yaml-cpp aspell libsigc++-3.0
 [ -n "${CCK_SOURCES-}" ] || download "$@"
 jobs=${JOBS:-4}
 cc=${COMPILER:-gcc}
@@ -64,6 +64,10 @@ configure() {
         tree=$room/tree
         CC=$cc CXX=$cxx cmake -G Ninja -B "$tree" -DRANGES_ENABLE_WERROR=OFF -DRANGE_V3_DOCS=OFF -DRANGE_V3_PERF=OFF
         ;;
+    yaml-cpp)
+        tree=$room/tree
+        CC=$cc CXX=$cxx cmake -G 'Unix Makefiles' -B "$tree" -DYAML_CPP_BUILD_TESTS=OFF
+        ;;
     aspell) ./configure --disable-static --disable-nls --disable-curses CC="$cc" CXX="$cxx" ;;
     libsigc++-3.0)
         tree=$room/tree
@@ -96,6 +100,7 @@ build() {
         make -s O="$tree" CC="$cc" olddefconfig && make -s -j "$jobs" O="$tree" CC="$cc" vmlinux
         ;;
     range-v3) run_ninja example/all test/action/all test/utility/all ;;
+    yaml-cpp) make -s -C "$tree" clean && make -s -j "$jobs" -C "$tree" ;;
     libsigc++-3.0) run_ninja ;;
     esac >"$room/built" 2>&1 || fault "$1: $(tail -n 1 "$room/built")"
     CACHE=
@@ -109,6 +114,7 @@ header() {
     ffmpeg) echo libavutil/attributes.h ;;
     linux) echo include/linux/types.h ;;
     range-v3) echo include/range/v3/range_fwd.hpp ;;
+    yaml-cpp) echo include/yaml-cpp/dll.h ;;
     aspell) echo common/string.hpp ;;
     libsigc++-3.0) echo sigc++/trackable.h ;;
     esac

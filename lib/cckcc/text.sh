@@ -2,9 +2,27 @@
 # recorded. It has set `cck_preprocessed`, the arguments of the preprocessor, `cck_input`, `cck_programs`, `cck_macros`, how
 # the text shows macros, and `cck_scratch`, the directory in which the text is written.
 
+# Runs gcc 12 as the preprocessor on these words, and takes -pedantic-errors for -pedantic: there it differs in errors alone,
+# and no test asks for it. What is in system headers, of which it is to warn, would be errors. A word before it shows that it
+# is no value of an option.
+preprocess_pedantic() {
+    cck_before=
+    for cck_argument do
+        shift
+        if [ "$cck_argument" = -pedantic-errors ]; then
+            case $cck_before in
+            ''|-[OWfg]*|-[DI]?*|-std=*|-pedantic) cck_argument=-pedantic ;;
+            esac
+        fi
+        cck_before=$cck_argument
+        set -- "$@" "$cck_argument"
+    done
+    LC_ALL=C "$cck_compiler" "$@"
+}
+
 # Preprocesses the input of the call into the file $1, with these further words of a shell. The list of directories is
 # read in the locale C. The preprocessor warns of each time macro that it expands, however that is spelled and wherever it
-# is: what a text shows of the time is in no key. In C extensions are not errors in system headers; in C++ -Wno-pedantic
+# is: what a text shows of the time is in no key. Extensions are not errors in system headers; in C++ by gcc -Wno-pedantic
 # would define macros, as __cpp_runtime_arrays. It names system headers as they are looked for, and not by a shorter path that
 # links lead to: a header that the compiler names so is not recorded. It also writes each directive that includes a header
 # (-dI), since it may pass over a copy of a header that was read, and the definitions of macros, since the key of an object
@@ -12,9 +30,13 @@
 # no other way. clang also lists the headers that it passes over (-MD). What is on standard input is for the compiler.
 preprocess() {
     cck_warnings='-fno-canonical-system-headers -Wno-pedantic'
-    ! is_cplusplus || cck_warnings='-fno-canonical-system-headers -Wliteral-suffix'
-    ! is_clang || cck_warnings='-MD -MT listed -MF "$cck_scratch/$1-listed"'
-    eval "LC_ALL=C \"\$cck_compiler\" $cck_preprocessed" \
+    ! is_cplusplus || cck_warnings='-fno-canonical-system-headers -Wno-error=pedantic -Wliteral-suffix'
+    ! is_clang || cck_warnings='-Wno-pedantic -Wno-unknown-warning-option -MD -MT listed -MF "$cck_scratch/$1-listed"'
+    cck_preprocessor='LC_ALL=C "$cck_compiler"'
+    case $cck_preprocessed in
+    *-pedantic-errors*) is_clang || cck_preprocessor=preprocess_pedantic ;;
+    esac
+    eval "$cck_preprocessor $cck_preprocessed" \
         '-Wdate-time -Wsystem-headers -Wno-error' "$cck_warnings $cck_macros $2" \
         '-dI -E -v -o "$cck_scratch/$1"' < /dev/null 2> "$cck_scratch/$1-search" || true > "$cck_scratch/failed"
 }
@@ -144,6 +166,7 @@ cck_reading='
     function read_file(name, file, line, held, is_later) {
         file = path_of(name)
         letters = ""
+        if (name == "/dev/null") return
         if (name ~ /^\/dev\//) { asks = unread = 1; return }
         while ((getline line < file) > 0) {
             if (!is_later++) sub(/^\357\273\277/, "", line)

@@ -13,7 +13,7 @@ use crate::outputs::write_outputs;
 use crate::places::are_free;
 use crate::programs::{Named, programs_of};
 use crate::record::{Outcome, record};
-use crate::request::{is_clang, request_key};
+use crate::request::{is_clang, is_foreign, request_key};
 use crate::seal::seal;
 use crate::store::store_in;
 use crate::unpack::{Taken, unpack};
@@ -492,6 +492,9 @@ fn wanted_of<'a, R: Files + AllocGlobal>(
         Judged::Asks(asked, paths) => (asked, paths),
         Judged::PassedOn(reason) => return Ok(Asked::PassedOn(reason)),
     };
+    if is_foreign(&asked, programs.as_str()) {
+        return Ok(Asked::PassedOn(Passed::Compiler));
+    }
     if !are_free(rt, &paths) {
         return Ok(Asked::PassedOn(Passed::Output));
     }

@@ -1,11 +1,12 @@
 //! The compilation of a request.
-ghost use Rattle.std.specs.Prelude.{◌≡◌, ◌++◌, ◌∷◌, [], Bool, IfOk, OnOk, string_bytes};
+ghost use Rattle.std.specs.Prelude.{◌≡◌, ◌&&◌, ◌++◌, ◌∷◌, [], Bool, IfOk, OnOk, string_bytes};
 ghost use Rattle.std.specs.List.{after_first, before_first};
 ghost use Rattle.std.specs.Option.{option_map};
 ghost use Rattle.cck_cache_rules.specs.Base.{word_lists};
 ghost use Rattle.cck_cache.specs.Input.{IsInput};
 ghost use Rattle.cck_cache.specs.Request.{AreKeyed, HasPreprocessorKey, IsCompilerDigest, IsHasher, IsRequest, given_arguments, is_clang, is_colon, is_plusplus, kind_of, language_of, proper_program, request_words};
 ghost use Rattle.cck_cache_arguments.specs.declared.request.Request as words;
+ghost use Rattle.cck_cache_options.specs.Call.{call_of};
 ghost use Rattle.cck_compiler.specs.Seen.{arguments_of};
 ghost use Rattle.cck_path.specs.Bytes.{lists_of};
 
@@ -15,7 +16,7 @@ use anyhow::{Context, Result};
 use c_cache_keys::{CCompilerHasher, CCompilerKind, ParsedArguments};
 use cck_cache_arguments::Request;
 use cck_cache_files::{compiler_digest, shared_compiler_digest};
-use cck_cache_options::{is_assembler, is_cplusplus};
+use cck_cache_options::{Call, is_assembler, is_cplusplus};
 use cck_cache_rules::{Words, base_of};
 use cck_compiler::copy_lists;
 use cck_files::MapFiles;
@@ -113,6 +114,14 @@ fn is_plusplus(programs: &str) -> bool
 {
     let program = proper_program(programs).as_bytes();
     program.ends_with(b"/cc1plus") || program.ends_with(b"/clang++")
+}
+
+/// Whether an option of a call says that the input is in C, and the compiler with these programs is one for C++: then
+/// another program compiles.
+pub fn is_foreign(asked: &Call<'_>, programs: &str) -> bool
+    ensures { result ≡ ((call_of asked.now).as_c && is_plusplus programs.now) }
+{
+    asked.as_c && is_plusplus(programs)
 }
 
 /// Whether the compiler with these programs is clang, and not gcc.

@@ -1,8 +1,8 @@
 //! Which file is at a path.
-ghost use Rattle.std.specs.Prelude.{◌≡◌, ◌≢◌, MatchBool};
+ghost use Rattle.std.specs.Prelude.{◌≡◌, ◌≢◌, IsTrue, MatchBool, codes};
 
 use std::fs::Metadata;
-use std::os::unix::fs::MetadataExt;
+use std::os::unix::fs::{FileTypeExt, MetadataExt};
 
 /// What the system knows a file or a directory by.
 #[derive(Clone, Copy)]
@@ -28,4 +28,11 @@ impl Identity {
     {
         self.device == other.device && self.inode == other.inode
     }
+}
+
+/// Whether what was found at a path is the null device, from which nothing is ever read: it counts as an empty file.
+pub fn is_null_device(path: &str, found: &Metadata) -> bool
+    ensures { IsTrue result → path.now ≡ codes "/dev/null" }
+{
+    path == "/dev/null" && found.file_type().is_char_device()
 }

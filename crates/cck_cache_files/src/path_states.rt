@@ -3,6 +3,7 @@ ghost use Rattle.std.specs.Prelude.{◌≡◌, ℕ, List, None, length, ◌<◌,
 ghost use Rattle.std.specs.Fs.{file_type};
 ghost use Rattle.cck_cache_files.specs.PathStates.{AreOnTheWay, EndsAt, HasOther, IsFirstEnd, IsFirstOther, IsStateFound, IsStateOf, IsThere, IsUnchanged, KeepsStates, LeadsOnBy, state_at};
 
+use crate::identity::is_null_device;
 use crate::times::{changed, is_settled, modified};
 use cck_path::Timestamp;
 use std::alloc::AllocError;
@@ -19,7 +20,7 @@ pub enum PathState {
     Absent,
     /// A link that last changed before the given time.
     Link,
-    /// A regular file that last changed before the given time.
+    /// A regular file that last changed before the given time, or the null device.
     File,
     /// A directory that was not changed itself, as to another name, at the given time or later. Names may have
     /// come and gone in it.
@@ -87,6 +88,7 @@ fn look_at<R: Files>(rt: &R, path: &[u8], since: Timestamp) -> PathState
     match fs::symlink_metadata(rt, path) {
         Err(error) if error.kind() == ErrorKind::NotFound => PathState::Absent,
         Err(_) => PathState::Doubtful,
+        Ok(found) if is_null_device(path, &found) => PathState::File,
         Ok(found) => {
             let (modified, changed) = (modified(&found), changed(&found));
             state_found(&found, is_settled(found.is_dir(), modified, changed, since))

@@ -8,7 +8,7 @@ ghost use Rattle.cck_markers.specs.Marks as marks;
 ghost use Rattle.cck_cache_files.specs.PathStates.{KeepsStates};
 ghost use Rattle.cck_cache_files.specs.Snapshot.{GrowsAt, SnapshotGrows, IsAdded, IsNamedFile, IsPart, IsNodePut, StaysCalm, named_path};
 
-use crate::identity::Identity;
+use crate::identity::{Identity, is_null_device};
 use crate::path_states::PathStates;
 use crate::times::{changed, modified};
 use cck_digest::UtilError;
@@ -70,6 +70,9 @@ fn read_node<R: Files + AllocGlobal>(rt: &R, path: &str) -> Option<Node>
     let metadata = fs::metadata(rt, path).ok()?;
     if metadata.is_dir() {
         return Some(node_of(FileKind::Folder, Vec::new(rt.alloc()), &metadata));
+    }
+    if is_null_device(path, &metadata) {
+        return Some(node_of(FileKind::File, Vec::new(rt.alloc()), &metadata));
     }
     if !metadata.is_file() {
         return Some(node_of(FileKind::Other, Vec::new(rt.alloc()), &metadata));

@@ -2,16 +2,17 @@
 use Rattle.std.proofs.Common.{◌≡◌, ◌⊎◌, ℕ, Bool, true, false, cond, List, [], ◌∷◌, ◌++◌, Option, Some, None, refl, ap, sym, ◌∙◌, inl, inr, append_assoc, nat_eq, codes, map, subst}
 use Rattle.std.specs.Prelude.{fold}
 use Rattle.std.specs.List.{starts_with}
+use Rattle.std.specs.Str.{bytes_eq}
 use Rattle.std.proofs.lemmas.List.{append-nil}
 use Rattle.cck_cache_options.specs.declared.reason.Reason.{Reason}
 use Rattle.cck_cache_options.specs.declared.reason.Reason.TheVariants.{OtherInput, PassedOption}
-use Rattle.cck_cache_options.specs.declared.table.Cause.TheVariants.{PreprocessorOption}
+use Rattle.cck_cache_options.specs.declared.table.Cause.TheVariants.{Mode, PreprocessorOption}
 use Rattle.cck_cache_options.specs.declared.table.Form.{Form}
 use Rattle.cck_cache_options.specs.declared.table.Form.TheVariants.{Alone, Joined, Separate, Either, Equals}
 use Rattle.cck_cache_options.specs.declared.table.Class.{Class}
-use Rattle.cck_cache_options.specs.declared.table.Class.TheVariants.{Text, Definition, Code, Message, CompilerMessage, Directory, Nothing, Compile, Output, Dependencies, Rule, Target, DependencyFile, PreprocessorDependencyFile, Passed}
+use Rattle.cck_cache_options.specs.declared.table.Class.TheVariants.{Text, Definition, Code, Message, CompilerMessage, Directory, Language, Nothing, Compile, Output, Dependencies, Rule, Target, DependencyFile, PreprocessorDependencyFile, PreprocessorTarget, Passed}
 use Rattle.cck_cache_options.specs.Table.{Entry, after_name, has_bytes, longest}
-use Rattle.cck_cache_options.specs.Call.{Asked, KeyedArgument, State, advance, flag, go, has_comma, is_keyed, is_source, keep, nothing_asked, on_argument, on_dash, on_equals, on_found, on_input, on_known, on_option, on_rest, on_value, refused, start, step, step_unless, stop, take, with_dependency_file, with_input, with_output, with_preprocessor_file}
+use Rattle.cck_cache_options.specs.Call.{Asked, KeyedArgument, State, advance, flag, go, has_comma, is_input, is_keyed, keep, nothing_asked, on_argument, on_dash, on_equals, on_found, on_input, on_known, on_option, on_rest, on_value, refused, start, step, step_unless, stop, take, with_dependency_file, with_input, with_language, with_output, with_preprocessor_file}
 use Rattle.cck_cache_options.specs.Laws.{AreInOrder, KeyedInOrder}
 use Rattle.cck_cache_options.proofs.StateLemmas.{finished, stops_never}
 
@@ -50,6 +51,10 @@ preprocessor_file_same : (call : Asked) (old : Option (List ℕ)) (value : List 
 preprocessor_file_same call None value = refl
 preprocessor_file_same call (Some other) value = tt
 
+language_same : (call : Asked) (old : Option (List ℕ)) → Same call (with_language call old)
+language_same call None = refl
+language_same call (Some other) = tt
+
 take_same : (call : Asked) (class : Class) (value : List ℕ) → Same call (take call class value)
 take_same call Text value = refl
 take_same call Definition value = refl
@@ -57,6 +62,7 @@ take_same call Code value = refl
 take_same call Message value = refl
 take_same call CompilerMessage value = refl
 take_same call Directory value = refl
+take_same call Language value = same_cond call (bytes_eq value (codes "c")) (with_language call call.input) (stop (PassedOption Mode)) (language_same call call.input) tt
 take_same call Nothing value = refl
 take_same call Compile value = refl
 take_same call Output value = output_same call call.output value
@@ -66,6 +72,8 @@ take_same call Target value = refl
 take_same call DependencyFile value = dependency_file_same call call.dependency_file value
 take_same call PreprocessorDependencyFile value =
     same_cond call (has_comma value) (stop (PassedOption PreprocessorOption)) (with_preprocessor_file call call.dependency_file value) tt (preprocessor_file_same call call.dependency_file value)
+take_same call PreprocessorTarget value =
+    same_cond call (has_comma value) (stop (PassedOption PreprocessorOption)) (go (record call { preprocessor_targets = true }) None) tt refl
 take_same call (Passed cause) value = tt
 
 flag_same : (call : Asked) (class : Class) → Same call (flag call class)
@@ -75,6 +83,7 @@ flag_same call Code = refl
 flag_same call Message = refl
 flag_same call CompilerMessage = refl
 flag_same call Directory = refl
+flag_same call Language = refl
 flag_same call Nothing = refl
 flag_same call Compile = refl
 flag_same call Output = refl
@@ -83,6 +92,7 @@ flag_same call Rule = refl
 flag_same call Target = refl
 flag_same call DependencyFile = refl
 flag_same call PreprocessorDependencyFile = refl
+flag_same call PreprocessorTarget = refl
 flag_same call (Passed cause) = tt
 
 equals_same : (call : Asked) (class : Class) (value : Option (List ℕ)) → Same call (on_equals call class value)
@@ -111,7 +121,7 @@ input_same call (Some other) argument = tt
 
 input_adds : (call : Asked) (argument : List ℕ) → Adds call (on_input call argument) argument
 input_adds call argument =
-    adds_cond call argument (is_source argument) (with_input call call.input argument) (stop OtherInput)
+    adds_cond call argument (is_input call.as_c argument) (with_input call call.input argument) (stop OtherInput)
     (kept_adds call Text argument (with_input call call.input argument) (input_same call call.input argument)) tt
 
 known_adds : (call : Asked) (option : Entry) (argument : List ℕ) (rest : Option (List ℕ)) → Adds call (on_known call option argument rest) argument

@@ -2,17 +2,18 @@
 use Rattle.std.proofs.Common.{◌≡◌, ◌⊎◌, ℕ, Bool, true, false, cond, List, [], ◌∷◌, ◌++◌, Option, Some, None, refl, ap, sym, ◌∙◌, inl, inr, subst, nat_eq, codes}
 use Rattle.std.specs.Prelude.{flat_map, fold}
 use Rattle.std.specs.List.{starts_with}
+use Rattle.std.specs.Str.{bytes_eq}
 use Rattle.std.proofs.lemmas.Bool.{false≢true}
 use Rattle.std.proofs.lemmas.Bool.Decides.{Decides-eqb}
 use Rattle.std.proofs.lemmas.List.{append-nil}
 use Rattle.cck_cache_options.specs.declared.reason.Reason.TheVariants.{OtherInput, PassedOption, TwoInputs}
-use Rattle.cck_cache_options.specs.declared.table.Cause.TheVariants.{PreprocessorOption}
+use Rattle.cck_cache_options.specs.declared.table.Cause.TheVariants.{Mode, PreprocessorOption}
 use Rattle.cck_cache_options.specs.declared.table.Form.{Form}
 use Rattle.cck_cache_options.specs.declared.table.Form.TheVariants.{Alone, Joined, Separate, Either, Equals}
 use Rattle.cck_cache_options.specs.declared.table.Class.{Class}
-use Rattle.cck_cache_options.specs.declared.table.Class.TheVariants.{Text, Definition, Code, Message, CompilerMessage, Directory, Nothing, Compile, Output, Dependencies, Rule, Target, DependencyFile, PreprocessorDependencyFile, Passed}
+use Rattle.cck_cache_options.specs.declared.table.Class.TheVariants.{Text, Definition, Code, Message, CompilerMessage, Directory, Language, Nothing, Compile, Output, Dependencies, Rule, Target, DependencyFile, PreprocessorDependencyFile, PreprocessorTarget, Passed}
 use Rattle.cck_cache_options.specs.Table.{Entry, after_name, form_fits, longest, rest_fits}
-use Rattle.cck_cache_options.specs.Call.{Asked, KeyedArgument, State, advance, flag, go, has_comma, is_source, keep, nothing_asked, on_dash, on_equals, on_found, on_input, on_known, on_rest, start, step, stop, take, take_preprocessor_file, with_dependency_file, with_input, with_output, with_preprocessor_file}
+use Rattle.cck_cache_options.specs.Call.{Asked, KeyedArgument, State, advance, flag, go, has_comma, is_input, keep, nothing_asked, on_dash, on_equals, on_found, on_input, on_known, on_rest, start, step, stop, take, take_language, take_preprocessor_file, take_preprocessor_target, with_dependency_file, with_input, with_language, with_output, with_preprocessor_file}
 use Rattle.cck_cache_options.specs.Laws.{IsLongest}
 use Rattle.cck_cache_options.specs.Parts.{AreParts, AskedIsRead, IsPart, IsRead, Part, TakesFlag, TakesValue, with_flag, with_part, with_value, written}
 use Rattle.cck_cache_options.specs.Parts.Part.{input, alone, joined, equal, apart}
@@ -64,13 +65,33 @@ took_preprocessor_file call value c w e = by_comma (has_comma value) refl e
     by_comma true comma q = never _ c w q
     by_comma false comma q = by_old comma call.dependency_file refl q
 
+took_preprocessor_target : (call : Asked) (value : List ℕ) (c : Asked) (w : Option Class) → take_preprocessor_target call value ≡ go c w → Took call PreprocessorTarget value c w
+took_preprocessor_target call value c w e = by_comma (has_comma value) refl e
+  where
+    by_comma : (t : Bool) → has_comma value ≡ t → cond t (stop (PassedOption PreprocessorOption)) (go (record call { preprocessor_targets = true }) None) ≡ go c w
+        → Took call PreprocessorTarget value c w
+    by_comma true comma q = never _ c w q
+    by_comma false comma q = let s = same (record call { preprocessor_targets = true }) c None w q in record { idle = s.waiting; is = s.call; free = comma }
+
+took_language : (call : Asked) (value : List ℕ) (c : Asked) (w : Option Class) → take_language call value ≡ go c w → Took call Language value c w
+took_language call value c w e = by_name (bytes_eq value (codes "c")) refl e
+  where
+    by_input : bytes_eq value (codes "c") ≡ true → (old : Option (List ℕ)) → call.input ≡ old → with_language call old ≡ go c w → Took call Language value c w
+    by_input name None f q = let s = same (record call { as_c = true }) c None w q in record { idle = s.waiting; is = s.call; free = (name, f) }
+    by_input name (Some other) f q = never _ c w q
+
+    by_name : (t : Bool) → bytes_eq value (codes "c") ≡ t → cond t (with_language call call.input) (stop (PassedOption Mode)) ≡ go c w → Took call Language value c w
+    by_name true name q = by_input name call.input refl q
+    by_name false name q = never _ c w q
+
 took : (call : Asked) (class : Class) (value : List ℕ) (c : Asked) (w : Option Class) → take call class value ≡ go c w → Took call class value c w
 took call Text value c w e = let s = same call c None w e in record { idle = s.waiting; is = s.call; free = tt }
 took call Definition value c w e = let s = same call c None w e in record { idle = s.waiting; is = s.call; free = tt }
 took call Code value c w e = let s = same call c None w e in record { idle = s.waiting; is = s.call; free = tt }
 took call Message value c w e = let s = same call c None w e in record { idle = s.waiting; is = s.call; free = tt }
 took call CompilerMessage value c w e = let s = same call c None w e in record { idle = s.waiting; is = s.call; free = tt }
-took call Directory value c w e = let s = same (record call { directories = call.directories ++ value ∷ [] }) c None w e in record { idle = s.waiting; is = s.call; free = tt }
+took call Directory value c w e = let s = same call c None w e in record { idle = s.waiting; is = s.call; free = tt }
+took call Language value c w e = took_language call value c w e
 took call Nothing value c w e = let s = same call c None w e in record { idle = s.waiting; is = s.call; free = tt }
 took call Compile value c w e = let s = same call c None w e in record { idle = s.waiting; is = s.call; free = tt }
 took call Output value c w e = took_output call call.output refl value c w e
@@ -79,6 +100,7 @@ took call Rule value c w e = let s = same call c None w e in record { idle = s.w
 took call Target value c w e = let s = same (record call { describes = true; targets = true }) c None w e in record { idle = s.waiting; is = s.call; free = tt }
 took call DependencyFile value c w e = took_dependency_file call call.dependency_file refl value c w e
 took call PreprocessorDependencyFile value c w e = took_preprocessor_file call value c w e
+took call PreprocessorTarget value c w e = took_preprocessor_target call value c w e
 took call (Passed cause) value c w e = never _ c w e
 
 record Flagged (call : Asked) (class : Class) (c : Asked) (w : Option Class) : Type 0 where
@@ -93,6 +115,7 @@ flagged call Code c w e = let s = same call c None w e in record { idle = s.wait
 flagged call Message c w e = let s = same call c None w e in record { idle = s.waiting; is = s.call; free = tt }
 flagged call CompilerMessage c w e = let s = same call c None w e in record { idle = s.waiting; is = s.call; free = tt }
 flagged call Directory c w e = let s = same call c None w e in record { idle = s.waiting; is = s.call; free = tt }
+flagged call Language c w e = let s = same call c None w e in record { idle = s.waiting; is = s.call; free = tt }
 flagged call Nothing c w e = let s = same call c None w e in record { idle = s.waiting; is = s.call; free = tt }
 flagged call Compile c w e = let s = same (record call { compiles = true }) c None w e in record { idle = s.waiting; is = s.call; free = tt }
 flagged call Output c w e = let s = same call c None w e in record { idle = s.waiting; is = s.call; free = tt }
@@ -101,6 +124,7 @@ flagged call Rule c w e = let s = same (record call { describes = true }) c None
 flagged call Target c w e = let s = same call c None w e in record { idle = s.waiting; is = s.call; free = tt }
 flagged call DependencyFile c w e = let s = same call c None w e in record { idle = s.waiting; is = s.call; free = tt }
 flagged call PreprocessorDependencyFile c w e = let s = same call c None w e in record { idle = s.waiting; is = s.call; free = tt }
+flagged call PreprocessorTarget c w e = let s = same call c None w e in record { idle = s.waiting; is = s.call; free = tt }
 flagged call (Passed cause) c w e = never _ c w e
 
 -- what counts in a key decides nothing of this
@@ -111,6 +135,7 @@ free_kept call keyed Code value f = tt
 free_kept call keyed Message value f = tt
 free_kept call keyed CompilerMessage value f = tt
 free_kept call keyed Directory value f = tt
+free_kept call keyed Language value f = f
 free_kept call keyed Nothing value f = tt
 free_kept call keyed Compile value f = tt
 free_kept call keyed Output value f = f
@@ -119,6 +144,7 @@ free_kept call keyed Rule value f = tt
 free_kept call keyed Target value f = tt
 free_kept call keyed DependencyFile value f = f
 free_kept call keyed PreprocessorDependencyFile value f = f
+free_kept call keyed PreprocessorTarget value f = f
 free_kept call keyed (Passed cause) value f = f
 
 abbrev bytes_or : List ℕ → Option (List ℕ) → List ℕ
@@ -234,15 +260,15 @@ first_or_second false a b s e = inr (refl, e)
 
 input_leads : (table : List Entry) (call : Asked) (argument : List ℕ) (c : Asked) (w : Option Class) → starts_with nat_eq argument (codes "-") ≡ false
     → on_input call argument ≡ go c w → Leads table call argument c w
-input_leads table call argument c w no_dash e = by_source (first_or_second (is_source argument) (with_input call call.input argument) (stop OtherInput) (go c w) e)
+input_leads table call argument c w no_dash e = by_source (first_or_second (is_input call.as_c argument) (with_input call call.input argument) (stop OtherInput) (go c w) e)
   where
-    by_input : is_source argument ≡ true → (old : Option (List ℕ)) → call.input ≡ old → with_input call old argument ≡ go c w → Leads table call argument c w
+    by_input : is_input call.as_c argument ≡ true → (old : Option (List ℕ)) → call.input ≡ old → with_input call old argument ≡ go c w → Leads table call argument c w
     by_input source None f q =
         let s = same (record (keep call Text argument) { input = Some argument }) c None w q in
         closes table call argument c w s.waiting (record { part = input argument; one = refl; allowed = (f, no_dash, source); is = s.call })
     by_input source (Some other) f q = never TwoInputs c w q
 
-    by_source : ((is_source argument ≡ true) × (with_input call call.input argument ≡ go c w)) ⊎ ((is_source argument ≡ false) × (stop OtherInput ≡ go c w))
+    by_source : ((is_input call.as_c argument ≡ true) × (with_input call call.input argument ≡ go c w)) ⊎ ((is_input call.as_c argument ≡ false) × (stop OtherInput ≡ go c w))
         → Leads table call argument c w
     by_source (inl q) = by_input q.0 call.input refl q.1
     by_source (inr q) = never OtherInput c w q.1

@@ -2,6 +2,7 @@
 use Rattle.std.specs.Prelude.{ℕ, Bool, true, false, cond, not, ◌&&◌, ◌||◌, List, [], ◌∷◌, ◌++◌, Option, Some, None, codes, drop, fold, map, nat_eq}
 use Rattle.std.specs.Option.{option_map}
 use Rattle.std.specs.List.{ends_with, list_any, starts_with}
+use Rattle.std.specs.Str.{bytes_eq}
 use Rattle.cck_cache_options.specs.declared.call.Call.{Call}
 use Rattle.cck_cache_options.specs.declared.call.Keyed.{Keyed}
 use Rattle.cck_cache_options.specs.declared.call.Next.{Next}
@@ -10,9 +11,9 @@ use Rattle.cck_cache_options.specs.declared.call.Parsed.{Parsed}
 use Rattle.cck_cache_options.specs.declared.call.Parsed.TheVariants.{Asks, PassedOn}
 use Rattle.cck_cache_options.specs.declared.reason.Reason.{Reason}
 use Rattle.cck_cache_options.specs.declared.reason.Reason.TheVariants.{ResponseFile, EmptyArgument, ControlCharacter, UnknownOption, PassedOption, MissingValue, OtherInput, TwoInputs, NoInput, TwoOutputs, TwoDependencyFiles, DependencyOptions, NotCompiling}
-use Rattle.cck_cache_options.specs.declared.table.Cause.TheVariants.{PreprocessorOption}
+use Rattle.cck_cache_options.specs.declared.table.Cause.TheVariants.{Mode, PreprocessorOption}
 use Rattle.cck_cache_options.specs.declared.table.Class.{Class}
-use Rattle.cck_cache_options.specs.declared.table.Class.TheVariants.{Text, Definition, Code, Message, CompilerMessage, Directory, Nothing, Compile, Output, Dependencies, Rule, Target, DependencyFile, PreprocessorDependencyFile, Passed}
+use Rattle.cck_cache_options.specs.declared.table.Class.TheVariants.{Text, Definition, Code, Message, CompilerMessage, Directory, Language, Nothing, Compile, Output, Dependencies, Rule, Target, DependencyFile, PreprocessorDependencyFile, PreprocessorTarget, Passed}
 use Rattle.cck_cache_options.specs.declared.table.Form.{Form}
 use Rattle.cck_cache_options.specs.declared.table.Form.TheVariants.{Alone, Joined, Separate, Either, Equals}
 use Rattle.cck_cache_options.specs.Table.{Entry, after_name, has_bytes, is_empty, longest}
@@ -35,8 +36,9 @@ pub record Asked : Type 0 where
   pub describes : Bool
   pub targets : Bool
   pub dependency_file : Option (List ℕ)
+  pub preprocessor_targets : Bool
+  pub as_c : Bool
   pub keyed : List KeyedArgument
-  pub directories : List (List ℕ)
 
 abbrev pub call_of : Call → Asked
 call_of call = record {
@@ -48,8 +50,9 @@ call_of call = record {
   describes = call.describes;
   targets = call.targets;
   dependency_file = option_map (λ bytes. bytes.now) call.dependency_file;
+  preprocessor_targets = call.preprocessor_targets;
+  as_c = call.as_c;
   keyed = map keyed_argument call.keyed.items;
-  directories = map (λ bytes. bytes.now) call.directories.items;
 }
 
 -- the state after some arguments: the call so far, and the class of the option whose value comes next; or why the call is not cached
@@ -77,6 +80,7 @@ is_keyed Code = true
 is_keyed Message = true
 is_keyed CompilerMessage = true
 is_keyed Directory = true
+is_keyed Language = true
 is_keyed Nothing = false
 is_keyed Compile = false
 is_keyed Output = false
@@ -85,6 +89,7 @@ is_keyed Rule = true
 is_keyed Target = true
 is_keyed DependencyFile = false
 is_keyed PreprocessorDependencyFile = true
+is_keyed PreprocessorTarget = true
 is_keyed (Passed cause) = false
 
 -- they count in a key, and are neither of a dependency file nor of the compiler's messages alone
@@ -95,6 +100,7 @@ is_preprocessed Code = true
 is_preprocessed Message = true
 is_preprocessed CompilerMessage = false
 is_preprocessed Directory = true
+is_preprocessed Language = true
 is_preprocessed Nothing = false
 is_preprocessed Compile = false
 is_preprocessed Output = false
@@ -103,6 +109,7 @@ is_preprocessed Rule = false
 is_preprocessed Target = false
 is_preprocessed DependencyFile = false
 is_preprocessed PreprocessorDependencyFile = false
+is_preprocessed PreprocessorTarget = false
 is_preprocessed (Passed cause) = false
 
 abbrev pub kept : Class → List ℕ → List KeyedArgument
@@ -129,12 +136,23 @@ abbrev pub with_preprocessor_file : Asked → Option (List ℕ) → List ℕ →
 with_preprocessor_file call None value = go (record call { dependency_file = Some value; preprocessor_depends = true }) None
 with_preprocessor_file call (Some other) value = stop TwoDependencyFiles
 
+-- a comma begins another option of the preprocessor
 abbrev pub has_comma : List ℕ → Bool
 has_comma value = list_any (λ byte. nat_eq byte 44) value
 
--- a comma in the path begins another option of the preprocessor
 abbrev pub take_preprocessor_file : Asked → List ℕ → State
 take_preprocessor_file call value = cond (has_comma value) (stop (PassedOption PreprocessorOption)) (with_preprocessor_file call call.dependency_file value)
+
+abbrev pub take_preprocessor_target : Asked → List ℕ → State
+take_preprocessor_target call value = cond (has_comma value) (stop (PassedOption PreprocessorOption)) (go (record call { preprocessor_targets = true }) None)
+
+abbrev pub with_language : Asked → Option (List ℕ) → State
+with_language call None = go (record call { as_c = true }) None
+with_language call (Some other) = stop (PassedOption Mode)
+
+-- the language of what follows is C, and is said before the input
+abbrev pub take_language : Asked → List ℕ → State
+take_language call value = cond (bytes_eq value (codes "c")) (with_language call call.input) (stop (PassedOption Mode))
 
 -- the value of an option of this class
 abbrev pub take : Asked → Class → List ℕ → State
@@ -143,7 +161,8 @@ take call Definition value = go call None
 take call Code value = go call None
 take call Message value = go call None
 take call CompilerMessage value = go call None
-take call Directory value = go (record call { directories = call.directories ++ value ∷ [] }) None
+take call Directory value = go call None
+take call Language value = take_language call value
 take call Nothing value = go call None
 take call Compile value = go call None
 take call Output value = take_output call value
@@ -152,6 +171,7 @@ take call Rule value = go call None
 take call Target value = go (record call { describes = true; targets = true }) None
 take call DependencyFile value = take_dependency_file call value
 take call PreprocessorDependencyFile value = take_preprocessor_file call value
+take call PreprocessorTarget value = take_preprocessor_target call value
 take call (Passed cause) value = stop (PassedOption cause)
 
 -- an option without a value
@@ -162,6 +182,7 @@ flag call Code = go call None
 flag call Message = go call None
 flag call CompilerMessage = go call None
 flag call Directory = go call None
+flag call Language = go call None
 flag call Nothing = go call None
 flag call Compile = go (record call { compiles = true }) None
 flag call Output = go call None
@@ -170,6 +191,7 @@ flag call Rule = go (record call { describes = true }) None
 flag call Target = go call None
 flag call DependencyFile = go call None
 flag call PreprocessorDependencyFile = go call None
+flag call PreprocessorTarget = go call None
 flag call (Passed cause) = stop (PassedOption cause)
 
 abbrev pub on_equals : Asked → Class → Option (List ℕ) → State
@@ -210,12 +232,17 @@ is_cplusplus name = ends_in_cplusplus (drop 1 name)
 abbrev pub is_assembler : List ℕ → Bool
 is_assembler name = ends_with nat_eq (drop 1 name) (codes ".S") || ends_with nat_eq (drop 1 name) (codes ".sx")
 
-abbrev pub is_source : List ℕ → Bool
-is_source name = is_c name || (is_cplusplus name || is_assembler name)
+-- a name says another language than C
+abbrev pub is_other : List ℕ → Bool
+is_other name = is_cplusplus name || is_assembler name
+
+-- The name of an input says its language. Where an option says that it is in C, it is one in C or the null device.
+abbrev pub is_input : Bool → List ℕ → Bool
+is_input as_c name = is_c name || cond as_c (bytes_eq name (codes "/dev/null")) (is_other name)
 
 -- an argument that is no option and no value: a source in C or C++, or assembler code to preprocess
 abbrev pub on_input : Asked → List ℕ → State
-on_input call argument = cond (is_source argument) (with_input call call.input argument) (stop OtherInput)
+on_input call argument = cond (is_input call.as_c argument) (with_input call call.input argument) (stop OtherInput)
 
 abbrev pub on_known : Asked → Entry → List ℕ → Option (List ℕ) → State
 on_known call option argument (Some rest) = on_option call option.form option.class argument rest
@@ -260,7 +287,7 @@ advance table (go call waiting) argument = step table call waiting argument
 
 -- a dependency file is asked for in two ways, or something is said of none
 abbrev pub is_contrary : Asked → Bool
-is_contrary call = cond call.preprocessor_depends call.depends (call.describes && not call.depends)
+is_contrary call = cond call.preprocessor_depends call.depends (call.preprocessor_targets || (call.describes && not call.depends))
 
 abbrev pub conclude_with : Asked → Option (List ℕ) → Outcome
 conclude_with call None = passed NoInput
@@ -285,8 +312,9 @@ start = record {
   describes = false;
   targets = false;
   dependency_file = None;
+  preprocessor_targets = false;
+  as_c = false;
   keyed = [];
-  directories = [];
 }
 
 abbrev pub nothing_asked : State

@@ -1,11 +1,12 @@
 -- the parts of a call's arguments
 use Rattle.std.specs.Prelude.{◌≡◌, ◌≢◌, ◌⊎◌, ℕ, true, false, List, [], ◌∷◌, ◌++◌, Some, None, codes, flat_map, nat_eq}
 use Rattle.std.specs.List.{starts_with}
+use Rattle.std.specs.Str.{bytes_eq}
 use Rattle.cck_cache_options.specs.declared.table.Form.TheVariants.{Alone, Joined, Separate, Either, Equals}
 use Rattle.cck_cache_options.specs.declared.table.Class.{Class}
-use Rattle.cck_cache_options.specs.declared.table.Class.TheVariants.{Text, Definition, Code, Message, CompilerMessage, Directory, Nothing, Compile, Output, Dependencies, Rule, Target, DependencyFile, PreprocessorDependencyFile, Passed}
+use Rattle.cck_cache_options.specs.declared.table.Class.TheVariants.{Text, Definition, Code, Message, CompilerMessage, Directory, Language, Nothing, Compile, Output, Dependencies, Rule, Target, DependencyFile, PreprocessorDependencyFile, PreprocessorTarget, Passed}
 use Rattle.cck_cache_options.specs.Table.{Entry}
-use Rattle.cck_cache_options.specs.Call.{Asked, asks, has_comma, is_contrary, is_source, keep, parse, start}
+use Rattle.cck_cache_options.specs.Call.{Asked, asks, has_comma, is_contrary, is_input, keep, parse, start}
 use Rattle.cck_cache_options.specs.Laws.{IsLongest}
 
 -- the input, an option without a value, one with its value in the same argument, one with a `=` before it, one with its value in the next argument
@@ -31,7 +32,8 @@ with_value call Definition value = call
 with_value call Code value = call
 with_value call Message value = call
 with_value call CompilerMessage value = call
-with_value call Directory value = record call { directories = call.directories ++ value ∷ [] }
+with_value call Directory value = call
+with_value call Language value = record call { as_c = true }
 with_value call Nothing value = call
 with_value call Compile value = call
 with_value call Output value = record call { output = Some value }
@@ -40,6 +42,7 @@ with_value call Rule value = call
 with_value call Target value = record call { describes = true; targets = true }
 with_value call DependencyFile value = record call { dependency_file = Some value; describes = true }
 with_value call PreprocessorDependencyFile value = record call { dependency_file = Some value; preprocessor_depends = true }
+with_value call PreprocessorTarget value = record call { preprocessor_targets = true }
 with_value call (Passed cause) value = call
 
 -- what an option without a value says
@@ -50,6 +53,7 @@ with_flag call Code = call
 with_flag call Message = call
 with_flag call CompilerMessage = call
 with_flag call Directory = call
+with_flag call Language = call
 with_flag call Nothing = call
 with_flag call Compile = record call { compiles = true }
 with_flag call Output = call
@@ -58,6 +62,7 @@ with_flag call Rule = record call { describes = true }
 with_flag call Target = call
 with_flag call DependencyFile = call
 with_flag call PreprocessorDependencyFile = call
+with_flag call PreprocessorTarget = call
 with_flag call (Passed cause) = call
 
 abbrev pub with_part : Asked → Part → Asked
@@ -67,8 +72,8 @@ with_part call (joined option value) = with_value (keep call option.class (optio
 with_part call (equal option value) = with_value (keep call option.class (option.name ++ 61 ∷ value)) option.class value
 with_part call (apart option value) = with_value (keep (keep call option.class option.name) option.class value) option.class value
 
--- A call may have a value of this class: not that of an option that is passed on, no second output and no second dependency file, and none of the
--- preprocessor with a comma.
+-- A call may have a value of this class: not that of an option that is passed on, no second output and no second dependency file, none of the
+-- preprocessor with a comma, and no language but C, before the input.
 abbrev pub TakesValue : Asked → Class → List ℕ → Type 0
 TakesValue call Text value = Unit {0}
 TakesValue call Definition value = Unit {0}
@@ -76,6 +81,7 @@ TakesValue call Code value = Unit {0}
 TakesValue call Message value = Unit {0}
 TakesValue call CompilerMessage value = Unit {0}
 TakesValue call Directory value = Unit {0}
+TakesValue call Language value = (bytes_eq value (codes "c") ≡ true) × (call.input ≡ None)
 TakesValue call Nothing value = Unit {0}
 TakesValue call Compile value = Unit {0}
 TakesValue call Output value = call.output ≡ None
@@ -84,6 +90,7 @@ TakesValue call Rule value = Unit {0}
 TakesValue call Target value = Unit {0}
 TakesValue call DependencyFile value = call.dependency_file ≡ None
 TakesValue call PreprocessorDependencyFile value = (call.dependency_file ≡ None) × (has_comma value ≡ false)
+TakesValue call PreprocessorTarget value = has_comma value ≡ false
 TakesValue call (Passed cause) value = ⊥
 
 abbrev pub TakesFlag : Class → Type 0
@@ -93,6 +100,7 @@ TakesFlag Code = Unit {0}
 TakesFlag Message = Unit {0}
 TakesFlag CompilerMessage = Unit {0}
 TakesFlag Directory = Unit {0}
+TakesFlag Language = Unit {0}
 TakesFlag Nothing = Unit {0}
 TakesFlag Compile = Unit {0}
 TakesFlag Output = Unit {0}
@@ -101,11 +109,12 @@ TakesFlag Rule = Unit {0}
 TakesFlag Target = Unit {0}
 TakesFlag DependencyFile = Unit {0}
 TakesFlag PreprocessorDependencyFile = Unit {0}
+TakesFlag PreprocessorTarget = Unit {0}
 TakesFlag (Passed cause) = ⊥
 
--- A part that may come next: the first input, which is a source in C, or an option of the table in its form, whose argument is no option of a longer name.
+-- A part that may come next: the first input, which is a source, or an option of the table in its form, whose argument is no option of a longer name.
 abbrev pub IsPart : List Entry → Asked → Part → Type 0
-IsPart table call (input path) = (call.input ≡ None) × (starts_with nat_eq path (codes "-") ≡ false) × (is_source path ≡ true)
+IsPart table call (input path) = (call.input ≡ None) × (starts_with nat_eq path (codes "-") ≡ false) × (is_input call.as_c path ≡ true)
 IsPart table call (alone option) = IsLongest table option.name (Some option) × (option.form ≡ Alone) × TakesFlag option.class
 IsPart table call (joined option value) =
     IsLongest table (option.name ++ value) (Some option) × ((option.form ≡ Joined) ⊎ (option.form ≡ Either)) × TakesValue call option.class value

@@ -5,7 +5,7 @@ use Rattle.std.specs.Str.{bytes_eq}
 use Rattle.cck_cache_options.specs.declared.table.Cause.{Cause}
 use Rattle.cck_cache_options.specs.declared.table.Cause.TheVariants.{Mode, DependencyList, PreprocessorOption, AssemblerOption, Inputs, LinkTimeOptimization, Native, Profile, Precompiled, FurtherOutput, RecordedSwitches, OtherPrograms}
 use Rattle.cck_cache_options.specs.declared.table.Class.{Class}
-use Rattle.cck_cache_options.specs.declared.table.Class.TheVariants.{Text, Definition, Code, Message, CompilerMessage, Directory, Nothing, Compile, Output, Dependencies, Rule, Target, DependencyFile, PreprocessorDependencyFile, Passed}
+use Rattle.cck_cache_options.specs.declared.table.Class.TheVariants.{Text, Definition, Code, Message, CompilerMessage, Directory, Language, Nothing, Compile, Output, Dependencies, Rule, Target, DependencyFile, PreprocessorDependencyFile, PreprocessorTarget, Passed}
 use Rattle.cck_cache_options.specs.declared.table.Form.{Form}
 use Rattle.cck_cache_options.specs.declared.table.Form.TheVariants.{Alone, Joined, Separate, Either, Equals}
 use Rattle.cck_cache_options.specs.declared.table.Row.{Row}
@@ -87,7 +87,9 @@ kept_class_named name =
     (cond (bytes_eq name (codes "rule")) (Some Rule)
     (cond (bytes_eq name (codes "target")) (Some Target)
     (cond (bytes_eq name (codes "dependency-file")) (Some DependencyFile)
-    (cond (bytes_eq name (codes "preprocessor-dependency-file")) (Some PreprocessorDependencyFile) None)))))))))))))
+    (cond (bytes_eq name (codes "preprocessor-dependency-file")) (Some PreprocessorDependencyFile)
+    (cond (bytes_eq name (codes "preprocessor-target")) (Some PreprocessorTarget)
+    (cond (bytes_eq name (codes "language")) (Some Language) None)))))))))))))))
 
 abbrev pub cause_named : List ℕ → Option Cause
 cause_named name =

@@ -3,7 +3,7 @@ ghost use Rattle.std.specs.Prelude.{◌≡◌, IfOk, OnOk, map};
 ghost use Rattle.std.specs.Option.{option_map};
 ghost use Rattle.cck_cache_options.specs.Runs.{AreRuns, runs_entries};
 ghost use Rattle.cck_cache_options.specs.Table.{entries};
-ghost use Rattle.cck_cache_options.specs.Call.{advance, call_of, conclude, ends_in_cplusplus, finish, flag, is_assembler, is_c, is_contrary, is_cplusplus, is_keyed, is_preprocessed, is_source, keep, next_of, on_argument, on_dash, on_input, on_option, on_value, outcome_of, parse, refused, start, step, take, take_dependency_file, take_output, take_preprocessor_file};
+ghost use Rattle.cck_cache_options.specs.Call.{advance, call_of, conclude, ends_in_cplusplus, finish, flag, has_comma, is_assembler, is_c, is_contrary, is_cplusplus, is_input, is_keyed, is_other, is_preprocessed, keep, next_of, on_argument, on_dash, on_input, on_option, on_value, outcome_of, parse, refused, start, step, take, take_dependency_file, take_language, take_output, take_preprocessor_file, take_preprocessor_target};
 
 use crate::reason::Reason;
 use crate::runs::{Runs, longest, runs_of};
@@ -37,10 +37,12 @@ pub struct Call<'a> {
     pub targets: bool,
     /// The path of the dependency file, if the call has one.
     pub dependency_file: Option<&'a [u8]>,
+    /// Whether an option of the preprocessor says the target of the rule in it.
+    pub preprocessor_targets: bool,
+    /// Whether an option says that the input is a source in C.
+    pub as_c: bool,
     /// The arguments that count in a key, in their order.
     pub keyed: Vec<Keyed<'a>>,
-    /// The directories in which headers are looked for, in their order.
-    pub directories: Vec<&'a [u8]>,
 }
 
 impl Drop for Call<'_> {
@@ -54,8 +56,9 @@ impl Drop for Call<'_> {
             describes: _,
             targets: _,
             dependency_file: _,
+            preprocessor_targets: _,
+            as_c: _,
             keyed: _,
-            directories: _,
         } = self;
     }
 }
@@ -88,10 +91,12 @@ fn is_keyed(class: Class) -> bool
         | Class::Message
         | Class::CompilerMessage
         | Class::Directory
+        | Class::Language
         | Class::Dependencies
         | Class::Rule
         | Class::Target
-        | Class::PreprocessorDependencyFile => true,
+        | Class::PreprocessorDependencyFile
+        | Class::PreprocessorTarget => true,
         Class::Nothing
         | Class::Compile
         | Class::Output
@@ -107,12 +112,18 @@ pub(crate) fn is_preprocessed(class: Class) -> bool
     ensures { result ≡ is_preprocessed class }
 {
     match class {
-        Class::Text | Class::Definition | Class::Code | Class::Message | Class::Directory => true,
+        Class::Text
+        | Class::Definition
+        | Class::Code
+        | Class::Message
+        | Class::Directory
+        | Class::Language => true,
         Class::CompilerMessage
         | Class::Dependencies
         | Class::Rule
         | Class::Target
         | Class::PreprocessorDependencyFile
+        | Class::PreprocessorTarget
         | Class::Nothing
         | Class::Compile
         | Class::Output
@@ -154,12 +165,18 @@ fn take_dependency_file<'a>(call: &mut Call<'a>, value: &'a [u8]) -> Next
     Next::On(None)
 }
 
-// The state after the path of a dependency file of the preprocessor. A comma in it begins another option
-// of the preprocessor.
+// Whether a value of an option of the preprocessor is none: a comma in it begins another option.
+fn has_comma(value: &[u8]) -> bool
+    ensures { result ≡ has_comma value.now }
+{
+    value.contains(&b',')
+}
+
+// The state after the path of a dependency file of the preprocessor.
 fn take_preprocessor_file<'a>(call: &mut Call<'a>, value: &'a [u8]) -> Next
     ensures { next_of (call_of call.new) result ≡ take_preprocessor_file (call_of call.old) value.now }
 {
-    if value.contains(&b',') {
+    if has_comma(value) {
         return Next::Stop(Reason::PassedOption(Cause::PreprocessorOption));
     }
     if call.dependency_file.is_some() {
@@ -167,6 +184,28 @@ fn take_preprocessor_file<'a>(call: &mut Call<'a>, value: &'a [u8]) -> Next
     }
     call.dependency_file = Some(value);
     call.preprocessor_depends = true;
+    Next::On(None)
+}
+
+// The state after the target of the rule in a dependency file of the preprocessor.
+fn take_preprocessor_target(call: &mut Call<'_>, value: &[u8]) -> Next
+    ensures { next_of (call_of call.new) result ≡ take_preprocessor_target (call_of call.old) value.now }
+{
+    if has_comma(value) {
+        return Next::Stop(Reason::PassedOption(Cause::PreprocessorOption));
+    }
+    call.preprocessor_targets = true;
+    Next::On(None)
+}
+
+// The state after the language of what follows, which is C and is said before the input.
+fn take_language(call: &mut Call<'_>, value: &[u8]) -> Next
+    ensures { next_of (call_of call.new) result ≡ take_language (call_of call.old) value.now }
+{
+    if !matches!(value, b"c") || call.input.is_some() {
+        return Next::Stop(Reason::PassedOption(Cause::Mode));
+    }
+    call.as_c = true;
     Next::On(None)
 }
 
@@ -179,7 +218,8 @@ fn take<'a>(call: &mut Call<'a>, class: Class, value: &'a [u8]) -> Result<Next, 
         Class::DependencyFile => return Ok(take_dependency_file(call, value)),
         Class::PreprocessorDependencyFile => return Ok(take_preprocessor_file(call, value)),
         Class::Passed(cause) => return Ok(Next::Stop(Reason::PassedOption(cause))),
-        Class::Directory => call.directories.push(value)?,
+        Class::PreprocessorTarget => return Ok(take_preprocessor_target(call, value)),
+        Class::Language => return Ok(take_language(call, value)),
         Class::Target => {
             call.describes = true;
             call.targets = true;
@@ -281,11 +321,24 @@ pub fn is_assembler(name: &[u8]) -> bool
     }
 }
 
-// Whether the compiler preprocesses a file of this name: a source in C or C++, or assembler code.
-fn is_source(name: &[u8]) -> bool
-    ensures { result ≡ is_source name.now }
+// Whether a file of this name is one of another language than C that is preprocessed.
+fn is_other(name: &[u8]) -> bool
+    ensures { result ≡ is_other name.now }
 {
-    is_c(name) || is_cplusplus(name) || is_assembler(name)
+    is_cplusplus(name) || is_assembler(name)
+}
+
+// Whether a file of this name is preprocessed, as a source of the language that its name says. The null device is one in C
+// where an option says so.
+fn is_input(as_c: bool, name: &[u8]) -> bool
+    ensures { result ≡ is_input as_c name.now }
+{
+    is_c(name)
+        || if as_c {
+            matches!(name, b"/dev/null")
+        } else {
+            is_other(name)
+        }
 }
 
 // The state after an argument that is no option and no value. The text may show the path of the input,
@@ -293,7 +346,7 @@ fn is_source(name: &[u8]) -> bool
 fn on_input<'a>(call: &mut Call<'a>, argument: &'a [u8]) -> Result<Next, AllocError>
     ensures { IfOk result (λ next. next_of (call_of call.new) next ≡ on_input (call_of call.old) argument.now) }
 {
-    if !is_source(argument) {
+    if !is_input(call.as_c, argument) {
         return Ok(Next::Stop(Reason::OtherInput));
     }
     if call.input.is_some() {
@@ -394,14 +447,15 @@ fn advance<'a>(
     }
 }
 
-// Whether a call asks for a dependency file in two ways, or only says something of one.
+// Whether a call asks for a dependency file in two ways, or only says something of one, to the compiler or to the
+// preprocessor.
 fn is_contrary(call: &Call<'_>) -> bool
     ensures { result ≡ is_contrary (call_of call.now) }
 {
     if call.preprocessor_depends {
         call.depends
     } else {
-        call.describes && !call.depends
+        call.preprocessor_targets || (call.describes && !call.depends)
     }
 }
 
@@ -444,8 +498,9 @@ fn start<'a>(alloc: Global) -> Call<'a>
         describes: false,
         targets: false,
         dependency_file: None,
+        preprocessor_targets: false,
+        as_c: false,
         keyed: Vec::new(alloc),
-        directories: Vec::new(alloc),
     }
 }
 

@@ -462,7 +462,7 @@ pub const CLANG: &[u8] = b"\
 -object-file-name joined passed-further-output\n\
 -E alone passed-mode\n\
 -S alone passed-mode\n\
--x either passed-mode\n\
+-x either language\n\
 -v alone passed-mode\n\
 -### alone passed-mode\n\
 - alone passed-mode\n\

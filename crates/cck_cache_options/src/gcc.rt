@@ -36,6 +36,7 @@ pub const GCC: &[u8] = b"\
 -MQ either target\n\
 -Wp,-MD, joined preprocessor-dependency-file\n\
 -Wp,-MMD, joined preprocessor-dependency-file\n\
+-Wp,-MT, joined preprocessor-target\n\
 -pipe alone code\n\
 -O alone code\n\
 -O0 alone code\n\
@@ -97,7 +98,7 @@ pub const GCC: &[u8] = b"\
 -mcpu=native alone passed-native\n\
 -E alone passed-mode\n\
 -S alone passed-mode\n\
--x either passed-mode\n\
+-x either language\n\
 -v alone passed-mode\n\
 -### alone passed-mode\n\
 - alone passed-mode\n\

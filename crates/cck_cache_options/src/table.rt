@@ -68,6 +68,8 @@ pub enum Class {
     CompilerMessage,
     /// A directory in which headers are looked for.
     Directory,
+    /// The language of the inputs that follow.
+    Language,
     /// Nothing of what is written.
     Nothing,
     /// That an object is made.
@@ -84,6 +86,8 @@ pub enum Class {
     DependencyFile,
     /// The path of a dependency file that the preprocessor is asked for.
     PreprocessorDependencyFile,
+    /// The target of the rule in that file.
+    PreprocessorTarget,
     /// That the call is not cached.
     Passed(Cause),
 }
@@ -221,6 +225,10 @@ fn kept_class_named(name: &[u8]) -> Option<Class>
         Some(Class::DependencyFile)
     } else if is(name, b"preprocessor-dependency-file") {
         Some(Class::PreprocessorDependencyFile)
+    } else if is(name, b"preprocessor-target") {
+        Some(Class::PreprocessorTarget)
+    } else if is(name, b"language") {
+        Some(Class::Language)
     } else {
         None
     }

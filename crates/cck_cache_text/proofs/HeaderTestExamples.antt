@@ -2,6 +2,7 @@
 use Rattle.std.proofs.Common.{◌≡◌, true, false, Some, None, codes, refl}
 use Rattle.cck_cache_text.specs.SearchList.{text_lines}
 use Rattle.cck_cache_text.specs.Condition.{after_piece, is_known, is_read}
+use Rattle.cck_cache_text.specs.DependencyPragma.{is_dependency_line}
 use Rattle.cck_cache_text.specs.HeaderTests.{is_no_test, is_passed_over, is_test, may_be_open, may_begin_open, tested}
 use Rattle.cck_cache_text.specs.TestMacro.{is_alias, is_defined, macro_test, names_class}
 use Rattle.cck_cache_text.specs.TestName.{name_in}
@@ -216,3 +217,17 @@ macro_of_the_compiler_by_a_macro = refl
 
 blind : tested false (codes "#if F(__has_include(<g.h>))") 6 ≡ None
 blind = refl
+
+-- ---- pragmas that compare the times of files
+
+word_in_a_comment : is_dependency_line (codes "#define A 8 /* used during dependency checking */") ≡ false
+word_in_a_comment = refl
+
+word_before_a_comment : is_dependency_line (codes "#define D dependency /* c */") ≡ true
+word_before_a_comment = refl
+
+word_after_a_comment : is_dependency_line (codes "#define D /* c */ dependency") ≡ true
+word_after_a_comment = refl
+
+word_beside_a_string : is_dependency_line (codes "#define S \"/*\" dependency /* \" */") ≡ true
+word_beside_a_string = refl

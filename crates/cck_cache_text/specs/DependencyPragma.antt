@@ -1,6 +1,7 @@
 -- pragmas that compare the times of files
-use Rattle.std.specs.Prelude.{ℕ, Bool, true, false, ◌&&◌, ◌||◌, ◌==◌, nat_eq, List, [], ◌∷◌, get_or, length, drop, codes, if◌then◌else◌}
+use Rattle.std.specs.Prelude.{ℕ, ◌-◌, Bool, true, false, not, ◌&&◌, ◌||◌, ◌==◌, nat_eq, List, [], ◌∷◌, get_or, length, take, drop, codes, if◌then◌else◌}
 use Rattle.std.specs.List.{list_any, starts_with}
+use Rattle.cck_cache_text.specs.Condition.{is_end}
 use Rattle.cck_cache_text.specs.Identifier.{after_blanks}
 use Rattle.cck_digest.specs.TimeMacros.{has}
 use Rattle.cck_cache_text.specs.SearchList.{text_lines}
@@ -38,11 +39,26 @@ ends_dependency line = has_dependency_word false line
 abbrev pub has_directive : List ℕ → Bool
 has_directive line = has line (codes "#") || has line (codes "%:") || has line (codes "??=") || has line (codes "GCC") || has line (codes "clang") || has line (codes "ragma")
 
+-- what follows the front of a line before the first beginning of a comment
+abbrev pub from_comment : List ℕ → List ℕ
+from_comment [] = []
+from_comment (byte ∷ line) = if starts_with nat_eq (byte ∷ line) (codes "/*") then byte ∷ line else from_comment line
+
+-- a string or a character may begin or end in a line
+abbrev pub has_quote : List ℕ → Bool
+has_quote line = has line (codes "\"") || has line (codes "'")
+
+-- A line without the comment with which it ends. In a line with a quote what begins a comment may be in a string.
+abbrev pub without_comment : List ℕ → List ℕ
+without_comment line =
+    if has_quote line || not (is_end (from_comment line)) then line else take (length line - length (from_comment line)) line
+
+-- a line has a directive, and the word before a comment with which it ends
 abbrev pub is_directive_line : List ℕ → Bool
-is_directive_line line = ends_dependency line && has_directive line
+is_directive_line line = ends_dependency (without_comment line) && has_directive line
 
 -- A line may be of a pragma that compares the times of files, or of a macro that makes one, by itself or with others: the word `dependency` is in it,
--- and a directive or a part of the name of a pragma, or the name of a file may follow.
+-- not only in a comment with which it ends, and a directive or a part of the name of a pragma, or the name of a file may follow.
 abbrev pub is_dependency_line : List ℕ → Bool
 is_dependency_line line = is_directive_line line || has_dependency_word true line
 

@@ -58,7 +58,7 @@ fn after_comments(text: &[u8]) -> Option<&[u8]>
 }
 
 // Whether no more than a comment follows on the line.
-fn is_end(text: &[u8]) -> bool
+pub fn is_end(text: &[u8]) -> bool
     ensures { result ≡ is_end text.now }
 {
     match after_comments(text) {

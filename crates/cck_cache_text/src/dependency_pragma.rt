@@ -1,7 +1,8 @@
 //! Pragmas that compare the times of files.
 ghost use Rattle.std.specs.Prelude.{◌≡◌};
-ghost use Rattle.cck_cache_text.specs.DependencyPragma.{ends_dependency, has_dependency, has_dependency_word, has_directive, is_before_name, is_dependency_line, is_dependency_word, is_directive_line, is_end_byte, is_end_of_word};
+ghost use Rattle.cck_cache_text.specs.DependencyPragma.{ends_dependency, from_comment, has_dependency, has_dependency_word, has_directive, has_quote, is_before_name, is_dependency_line, is_dependency_word, is_directive_line, is_end_byte, is_end_of_word, without_comment};
 
+use crate::condition::is_end;
 use crate::identifier::{after_blanks, first_byte};
 use crate::splices::{has, is_blank};
 
@@ -75,11 +76,43 @@ fn has_directive(line: &[u8]) -> bool
         || has(line, b"ragma")
 }
 
-// Whether a line has the word and a directive.
+// What follows the front of a line before the first beginning of a comment.
+fn from_comment(line: &[u8]) -> &[u8]
+    ensures { result.now ≡ from_comment line.now }
+{
+    let mut rest = line;
+    while let [_, after @ ..] = rest {
+        if rest.starts_with(b"/*") {
+            return rest;
+        }
+        rest = after;
+    }
+    rest
+}
+
+// Whether a string or a character may begin or end in a line.
+fn has_quote(line: &[u8]) -> bool
+    ensures { result ≡ has_quote line.now }
+{
+    has(line, b"\"") || has(line, b"'")
+}
+
+// A line without the comment with which it ends. In a line with a quote what begins a comment may be in a string.
+fn without_comment(line: &[u8]) -> &[u8]
+    ensures { result.now ≡ without_comment line.now }
+{
+    let comment = from_comment(line);
+    if has_quote(line) || !is_end(comment) {
+        return line;
+    }
+    &line[..line.len().saturating_sub(comment.len())]
+}
+
+// Whether a line has a directive, and the word before a comment with which it ends.
 fn is_directive_line(line: &[u8]) -> bool
     ensures { result ≡ is_directive_line line.now }
 {
-    ends_dependency(line) && has_directive(line)
+    ends_dependency(without_comment(line)) && has_directive(line)
 }
 
 // Whether a line may be of a pragma that compares the times of files, or of a macro that makes one, by
