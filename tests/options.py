@@ -36,7 +36,7 @@ LISTS = (
 HIDDEN = ("-I-",)
 CLANG_CL = ("-MTd", "-openmp", "-openmp-", "-openmp:experimental")
 # The classes of options that the preprocessor is given, and that of options that it is not given for its warnings.
-PREPROCESSED = ("text", "definition", "code", "message", "directory")
+PREPROCESSED = ("text", "definition", "code", "message", "directory", "language")
 SILENCING = "compiler-message"
 # Values that are tried with each option that has one.
 VALUES = ("0", "1", "20", "x", "always", "none")

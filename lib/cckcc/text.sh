@@ -339,17 +339,44 @@ cck_reading='
         rest = substr(line, RSTART + RLENGTH)
         return 1
     }
+    function enters_raw(line) {
+        if (is_c || is_assembler || !match(line, /^"[^ ()\\\t\013\f]*\(/)) return 0
+        raw_end = ")" substr(line, 2, RLENGTH - 2) "\""
+        rest = substr(line, RLENGTH + 1)
+        return 1
+    }
+    function leaves_raw(line, size) {
+        size = index(line, raw_end)
+        if (!size) return 0
+        rest = substr(line, size + length(raw_end))
+        raw_end = ""
+        return 1
+    }
     function begins_raw(line) {
         while (next_word(line)) {
             line = rest
-            if (word ~ /^(u8|u|U|L)?R$/ && line ~ /^"/) return 1
+            if (word ~ /["\047]$/ && line ~ /^(u8|u|U|L)?R"/) return 1
+            if (word !~ /^(u8|u|U|L)?R$/ || line !~ /^"/) continue
+            if (!enters_raw(line) || !leaves_raw(rest)) return 1
+            line = rest
         }
         return 0
     }
     function read_code(line) {
+        if (raw_end != "") {
+            if (!leaves_raw(line)) return
+            line = rest
+        }
         while (next_word(line)) {
             line = rest
-            if (nesting > 0) {
+            if (word ~ /["\047]$/ && line ~ /^(u8|u|U|L)?R"/) reason = "assembler-include"
+            if (word ~ /^(u8|u|U|L)?R$/ && line ~ /^"/) {
+                if (nesting > 0) reason = "assembler-include"
+                waits = 0
+                if (!enters_raw(line)) { has_raw = 1; continue }
+                if (!leaves_raw(rest)) return
+                line = rest
+            } else if (nesting > 0) {
                 if (word == "\"") reason = "assembler-include"
                 if (word == "(") nesting++
                 if (word ~ /^"./) code = code substr(word, 2, length(word) - 2)
@@ -390,9 +417,9 @@ cck_reading='
 # (`read_rule`, `write_places`). It enters a file for the macros that it defines itself and one for those of the arguments, and
 # then returns to the input. It names headers of gcc by way of its own directory. It assembles by itself, so that a text is
 # refused whose code for the assembler has other directives than some that read no file: its strings are put together, and no
-# macro, alternative or operand of it makes the name of a directive (`read_code`, `judge_code`). A raw string hides what is
-# code, so that a text with one (`begins_raw`) and such code is refused. A pragma takes effect when it
-# preprocesses too, so that one that may turn off the warning of a time macro counts as one. So does another one than a few,
+# macro, alternative or operand of it makes the name of a directive (`read_code`, `judge_code`). Raw strings of C++ are
+# passed over, up to their ends; what may begin one otherwise hides what is code, so that a text with it and such code is refused
+# (`begins_raw`). A pragma takes effect when it preprocesses too, so that one that may turn off the warning of a time macro counts as one. So does another one than a few,
 # since the compiler may expand macros in it.
 cck_judging='
     is_rule { read_rule($0); next }
@@ -408,8 +435,9 @@ cck_judging='
         for (name in given)
             if (!(name in listed)) print "ignoring duplicate directory \"" name "\"" > (ENVIRON["cck_scratch"] "/left-out")
     }
-    is_clang && (nesting > 0 || waits || /asm/) && !/^#/ { read_code($0) }
-    is_clang && /(^|[^A-Za-z0-9_])(u8|u|U|L)?R"/ && !/^#/ && begins_raw($0) { has_raw = 1 }
+    is_clang { is_raw = raw_end != "" }
+    is_raw || (is_clang && !/^#/ && (nesting > 0 || waits || /asm/ || /(^|[^A-Za-z0-9_])(u8|u|U|L)?R"/)) { read_code($0) }
+    is_clang && !is_raw && /^#/ && index($0, "R\"") && begins_raw($0) { has_raw = has_code = 1 }
     is_clang && has_raw && /^#/ && /asm/ { has_code = 1 }
     /^# [0-9]+ "/ { read_marker(substr($0, index($0, "\""))); next }
     index($0, "R\"") && goes_on($0) { marks = 1 }
@@ -469,7 +497,7 @@ cck_judging='
         if (asks && ((targets && sets_targets) || silences)) reason = "other-file"
         if (tests && parallel && ENVIRON["cck_extended"] != "") reason = "header-test"
         if (stands && is_macro(text)) reason = "header-test"
-        if (nesting > 0 || (has_raw && has_code)) reason = "assembler-include"
+        if (nesting > 0 || raw_end != "" || (has_raw && has_code)) reason = "assembler-include"
         if (is_clang) write_places()
         print shows_time ? "time-macro" : reason
         print doubts (asks ? " builtins" : "")

@@ -56,6 +56,9 @@ SNIPPETS = r"""
 1.2 any #pragma GCC dependency "@h"
 0.6 any #pragma GCC dep\\\nendency "@h"
 0.6 any _Pragma("GCC dependency \\"@h\\"")
+0.5 any #pragma GCC /* c */ dependency <@h> /* @k */
+1.2 any #define A@n @k /* a dependency on @h */
+0.4 any #define A@n @k /* a dependency\non @h */
 1.5 h #pragma once
 0.4 h _Pragma("once")
 0.8 h #pragma GCC system_header
@@ -99,7 +102,7 @@ OPTIONS = r"""
 1.6 alone -nostdinc -isysroota -isysroot../other -Wa,--noexecstack -Wa,--fatal-warnings -Wa,--no-warn -Wp,-D_FORTIFY_SOURCE=2
 2 alone -Wunused-variable -Wimplicit-fallthrough -Wimplicit-fallthrough=2
 2 alone -Wsign-compare -Wmisleading-indentation -Wsystem-headers
-1.6 alone -Werror -Werror=unused-variable -Wfatal-errors -Wno-cpp
+1.6 alone -Werror -Werror=unused-variable -Wfatal-errors -Wno-cpp -pedantic-errors
 1.6 alone -Wcpp -Wundef -Wstrict-prototypes -Wdate-time -Wunused-macros
 2.5 alone -fno-common -fPIC -fwrapv -ffunction-sections
 2.5 alone -fdata-sections -fno-asynchronous-unwind-tables -fstack-protector-strong -fvisibility=hidden
@@ -129,6 +132,10 @@ OPTIONS = r"""
 2 words -MD -MT x.o -MQ a$b -MF out/y.d
 2 words -MD -MP -MF x.d -MT out/x.o
 1.5 alone -Wp,-MD,out/x.d -Wp,-MMD,out/.x.d -Wp,-DM1=2 -Wp,-MD -Wp,-DT0=__TIME__ -Wp,-Ia -Wp,-w
+1.5 words -Wp,-MD,out/x.d -Wp,-MT,out/x.o
+0.7 alone -Wp,-MT,t -Wp,-MT,t,u
+2 words -x c
+0.7 alone -xc -xc++ -xnone -x
 1 alone -M -MM -MG -MP -MF -MT
 1 either -MF out/z.d missing/x.d -o a linked
 3 alone -pipe

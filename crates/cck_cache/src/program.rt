@@ -469,13 +469,9 @@ fn judged<'a>(
     judge(alloc, &rows, arguments)
 }
 
-// The table of options of the compiler with these programs, and the rows for the machine's processor.
-fn tables_of(programs: &str) -> (&'static [u8], &'static [u8]) {
-    if is_clang(programs) {
-        (CLANG, b"")
-    } else {
-        (GCC, NATIVE)
-    }
+// The table of options of the compiler with these programs.
+fn table_for(programs: &str) -> &'static [u8] {
+    if is_clang(programs) { CLANG } else { GCC }
 }
 
 // What a call of a compiler asks for whose programs these are, or why the call is not cached. The only error is
@@ -487,8 +483,8 @@ fn wanted_of<'a, R: Files + AllocGlobal>(
     programs: String,
 ) -> Result<Asked<'a>, AllocError> {
     let (alloc, knows_native) = (rt.alloc(), environment.knows_native);
-    let (table, native) = tables_of(programs.as_str());
-    let (asked, paths) = match judged(alloc, table, native, knows_native, &call.arguments)? {
+    let table = table_for(programs.as_str());
+    let (asked, paths) = match judged(alloc, table, NATIVE, knows_native, &call.arguments)? {
         Judged::Asks(asked, paths) => (asked, paths),
         Judged::PassedOn(reason) => return Ok(Asked::PassedOn(reason)),
     };

@@ -1,6 +1,7 @@
 //! The arguments of a call.
-ghost use Rattle.std.specs.Prelude.{◌≡◌, IfOk, OnOk, map};
+ghost use Rattle.std.specs.Prelude.{◌≡◌, IfOk, OnOk, codes, map};
 ghost use Rattle.std.specs.Option.{option_map};
+ghost use Rattle.std.specs.Str.{bytes_eq};
 ghost use Rattle.cck_cache_options.specs.Runs.{AreRuns, runs_entries};
 ghost use Rattle.cck_cache_options.specs.Table.{entries};
 ghost use Rattle.cck_cache_options.specs.Call.{advance, call_of, conclude, ends_in_cplusplus, finish, flag, has_comma, is_assembler, is_c, is_contrary, is_cplusplus, is_input, is_keyed, is_other, is_preprocessed, keep, next_of, on_argument, on_dash, on_input, on_option, on_value, outcome_of, parse, refused, start, step, take, take_dependency_file, take_language, take_output, take_preprocessor_file, take_preprocessor_target};
@@ -328,17 +329,23 @@ fn is_other(name: &[u8]) -> bool
     is_cplusplus(name) || is_assembler(name)
 }
 
+// Whether a name is that of the null device.
+fn is_null_device(name: &[u8]) -> bool
+    ensures { result ≡ bytes_eq name.now (codes "/dev/null") }
+{
+    name == b"/dev/null".as_slice()
+}
+
 // Whether a file of this name is preprocessed, as a source of the language that its name says. The null device is one in C
 // where an option says so.
 fn is_input(as_c: bool, name: &[u8]) -> bool
     ensures { result ≡ is_input as_c name.now }
 {
-    is_c(name)
-        || if as_c {
-            matches!(name, b"/dev/null")
-        } else {
-            is_other(name)
-        }
+    if as_c {
+        is_c(name) || is_null_device(name)
+    } else {
+        is_c(name) || is_other(name)
+    }
 }
 
 // The state after an argument that is no option and no value. The text may show the path of the input,

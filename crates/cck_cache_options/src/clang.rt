@@ -88,6 +88,7 @@ pub const CLANG: &[u8] = b"\
 -fstrict-aliasing alone code\n\
 -fstrict-enums alone code\n\
 -fstrict-overflow alone code\n\
+-fstrict-vtable-pointers alone code\n\
 -ftrapping-math alone code\n\
 -ftrapv alone code\n\
 -funit-at-a-time alone code\n\
@@ -434,6 +435,7 @@ pub const CLANG: &[u8] = b"\
 -ffile-prefix-map equals code\n\
 -ffp-contract equals code\n\
 -ffp-model equals text\n\
+-fmacro-backtrace-limit equals message\n\
 -fmacro-prefix-map equals text\n\
 -fmessage-length equals compiler-message\n\
 -fpack-struct equals code\n\

@@ -1,7 +1,7 @@
 //! The options of gcc.
 
-/// The options of gcc whose code is for the machine that compiles, as rows before those of [`GCC`]: for a call of which it is
-/// known, and part of the keys, what gcc makes of them.
+/// The options of gcc and clang whose code is for the machine that compiles, as rows before those of a table: for a call of
+/// which it is known, and part of the keys, what the compiler makes of them.
 pub const NATIVE: &[u8] = b"\
 -march=native alone code\n\
 -mtune=native alone code\n\

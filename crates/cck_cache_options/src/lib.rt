@@ -3,8 +3,8 @@
 //! An argument that the table does not know, or that it knows as one of calls that are not cached, ends
 //! the reading with a reason: the call then goes to the compiler as it came.
 //!
-//! - [`rows_of`] reads a table of options from its text. [`GCC`] is that of gcc, and [`NATIVE`] has rows that may come
-//!   before its own. [`CLANG`] is that of clang.
+//! - [`rows_of`] reads a table of options from its text. [`GCC`] is that of gcc and [`CLANG`] that of clang, and
+//!   [`NATIVE`] has rows that may come before those of either.
 //! - [`parse`] reads the arguments of a call by the rows of a table. [`is_cplusplus`] says which inputs are in
 //!   C++, and [`is_assembler`] which are assembler code.
 //! - [`push_word`] appends an argument as a POSIX shell reads it back, and
