@@ -31,7 +31,7 @@ preprocess_pedantic() {
 preprocess() {
     cck_warnings='-fno-canonical-system-headers -Wno-pedantic'
     ! is_cplusplus || cck_warnings='-fno-canonical-system-headers -Wno-error=pedantic -Wliteral-suffix'
-    ! is_clang || cck_warnings='-Wno-pedantic -Wno-unknown-warning-option -MD -MT listed -MF "$cck_scratch/$1-listed"'
+    ! is_clang || cck_warnings='-Wno-everything -Wdate-time -MD -MT listed -MF "$cck_scratch/$1-listed"'
     cck_preprocessor='LC_ALL=C "$cck_compiler"'
     case $cck_preprocessed in
     *-pedantic-errors*) is_clang || cck_preprocessor=preprocess_pedantic ;;
@@ -331,7 +331,26 @@ cck_reading='
         for (name in projects) entered[place_of(name)]
         for (name in others) entered[place_of(name)]
         for (place in entered) print place > (ENVIRON["cck_scratch"] "/entered")
-        for (place in passed) if (!(place in entered)) reason = "other-file"
+        for (place in passed) if (!(place in entered) && !is_asked(place)) reason = "other-file"
+    }
+    function add_included(line, end) {
+        sub(/^#[a-z_]+ /, "", line)
+        end = substr(line, 1, 1)
+        if (end !~ /["<]/) reason = "other-file"
+        if (end == "<") end = ">"
+        line = substr(line, 2)
+        if (!index(line, end)) reason = "other-file"
+        line = substr(line, 1, index(line, end) - 1)
+        sub(/.*\//, "", line)
+        included[line]
+    }
+    function is_asked(place, name) {
+        for (name in listed) if (index(place, place_of(name) "/") == 1) {
+            name = place
+            sub(/.*\//, "", name)
+            return !(name in included)
+        }
+        return 0
     }
     function next_word(line) {
         if (!match(line, /"([^"\\]|\\.)*"|\047([^\047\\]|\\.)*\047|[0-9]([A-Za-z0-9_.]|\047[A-Za-z0-9_])*|[A-Za-z_$][A-Za-z0-9_$]*|[^ \t]/)) return 0
@@ -340,7 +359,7 @@ cck_reading='
         return 1
     }
     function enters_raw(line) {
-        if (is_c || is_assembler || !match(line, /^"[^ ()\\\t\013\f]*\(/)) return 0
+        if (is_c || is_assembler || standard !~ /^20/ || !match(line, /^"[^ ()\\\t\013\f]*\(/)) return 0
         raw_end = ")" substr(line, 2, RLENGTH - 2) "\""
         rest = substr(line, RLENGTH + 1)
         return 1
@@ -412,15 +431,15 @@ cck_reading='
 # a macro that the text does not show. What is pasted after `> struct` is the name of a class, unless `struct` is a macro,
 # or a parameter of that definition.
 #
-# clang gives directories that are one the first of their names: of each other name it is written, as gcc does, that it is left
-# out (`read_search`). A file that it lists and did not enter was passed over by another name, or is asked for by a test
-# (`read_rule`, `write_places`). It enters a file for the macros that it defines itself and one for those of the arguments, and
-# then returns to the input. It names headers of gcc by way of its own directory. It assembles by itself, so that a text is
-# refused whose code for the assembler has other directives than some that read no file: its strings are put together, and no
-# macro, alternative or operand of it makes the name of a directive (`read_code`, `judge_code`). Raw strings of C++ are
-# passed over, up to their ends; what may begin one otherwise hides what is code, so that a text with it and such code is refused
-# (`begins_raw`). A pragma takes effect when it preprocesses too, so that one that may turn off the warning of a time macro counts as one. So does another one than a few,
-# since the compiler may expand macros in it.
+# clang gives directories that are one the first of their names: of each other name it is written, as gcc does, that it is
+# left out (`read_search`). A file that it lists and did not enter was passed over by another name, unless no directive
+# has that name and it is in a directory of the list: then a test asks for it (`read_rule`, `write_places`). It enters a file for the macros that it defines itself and one for those of the arguments,
+# and then returns to the input. It names headers of gcc by way of its own directory. It assembles by itself, so that a text
+# is refused whose code for the assembler has other directives than some that read no file: its strings are put together, and
+# no macro, alternative or operand of it makes the name of a directive (`read_code`, `judge_code`). Raw strings of C++ are
+# passed over, from C++11 on; what may begin one otherwise hides what is code, so that a text with it and such code is refused
+# (`begins_raw`). A pragma takes effect when it preprocesses too, so that one that may turn off the warning of a time macro
+# counts as one. So does another one than a few, since the compiler may expand macros in it.
 cck_judging='
     is_rule { read_rule($0); next }
     !is_text {
@@ -435,11 +454,14 @@ cck_judging='
         for (name in given)
             if (!(name in listed)) print "ignoring duplicate directory \"" name "\"" > (ENVIRON["cck_scratch"] "/left-out")
     }
+    is_clang && standard == "" && /^#define __cplusplus / { standard = $3 }
     is_clang { is_raw = raw_end != "" }
     is_raw || (is_clang && !/^#/ && (nesting > 0 || waits || /asm/ || /(^|[^A-Za-z0-9_])(u8|u|U|L)?R"/)) { read_code($0) }
     is_clang && !is_raw && /^#/ && index($0, "R\"") && begins_raw($0) { has_raw = has_code = 1 }
     is_clang && has_raw && /^#/ && /asm/ { has_code = 1 }
+    is_clang && /[^\t -~](u8|u|U|L)?R"/ { has_raw = has_code = 1 }
     /^# [0-9]+ "/ { read_marker(substr($0, index($0, "\""))); next }
+    is_clang && /^#(include|include_next|import|__include_macros) / { add_included($0) }
     index($0, "R\"") && goes_on($0) { marks = 1 }
     /target/ && /(^|[^A-Za-z0-9_$])(__)?target(_clones)?(__)?[ \t]*([(]|$)/ { sets_targets = 1 }
     !/^[ \t]*#/ { next }
