@@ -27,7 +27,9 @@ preprocess_pedantic() {
 # links lead to: a header that the compiler names so is not recorded. It also writes each directive that includes a header
 # (-dI), since it may pass over a copy of a header that was read, and the definitions of macros, since the key of an object
 # has no -D and -U. In C++ it warns of what follows a literal and is a macro when it is read, and not a suffix, which shows in
-# no other way. clang also lists the headers that it passes over (-MD). What is on standard input is for the compiler.
+# no other way. clang also lists the headers that it passes over (-MD), and warns of nothing but time macros: with
+# -pedantic-errors other warnings, of which some are not of -pedantic, would be errors. What is on standard input is for the
+# compiler.
 preprocess() {
     cck_warnings='-fno-canonical-system-headers -Wno-pedantic'
     ! is_cplusplus || cck_warnings='-fno-canonical-system-headers -Wno-error=pedantic -Wliteral-suffix'
@@ -432,14 +434,15 @@ cck_reading='
 # or a parameter of that definition.
 #
 # clang gives directories that are one the first of their names: of each other name it is written, as gcc does, that it is
-# left out (`read_search`). A file that it lists and did not enter was passed over by another name, unless no directive
-# has that name and it is in a directory of the list: then a test asks for it (`read_rule`, `write_places`). It enters a file for the macros that it defines itself and one for those of the arguments,
-# and then returns to the input. It names headers of gcc by way of its own directory. It assembles by itself, so that a text
-# is refused whose code for the assembler has other directives than some that read no file: its strings are put together, and
-# no macro, alternative or operand of it makes the name of a directive (`read_code`, `judge_code`). Raw strings of C++ are
-# passed over, from C++11 on; what may begin one otherwise hides what is code, so that a text with it and such code is refused
-# (`begins_raw`). A pragma takes effect when it preprocesses too, so that one that may turn off the warning of a time macro
-# counts as one. So does another one than a few, since the compiler may expand macros in it.
+# left out (`read_search`). A file that it lists and did not enter was passed over by another name, unless no directive has
+# that name and it is in a directory of the list: then a test asks for it (`read_rule`, `write_places`). It enters a file for
+# the macros that it defines itself and one for those of the arguments, and then returns to the input. It names headers of gcc
+# by way of its own directory. It assembles by itself, so that a text is refused whose code for the assembler has other
+# directives than some that read no file: its strings are put together, and no macro, alternative or operand of it makes the
+# name of a directive (`read_code`, `judge_code`). Raw strings of C++ are passed over, from C++11 on; what may begin one
+# otherwise hides what is code, so that a text with it and such code is refused (`begins_raw`). A pragma takes effect when it
+# preprocesses too, so that one that may turn off the warning of a time macro counts as one. So does another one than a few,
+# since the compiler may expand macros in it.
 cck_judging='
     is_rule { read_rule($0); next }
     !is_text {
