@@ -22,8 +22,8 @@ use Rattle.cck_cache_rules.specs.PathStatus.{Status, statuses_of}
 use Rattle.cck_cache_rules.specs.Reading.{IsAny}
 use Rattle.cck_cache_rules.specs.declared.object_file.ObjectFile.{ObjectFile}
 use Rattle.cck_cache_rules.specs.declared.path_status.PathStatus.{PathStatus}
-use Rattle.cck_cache_server.specs.Given.{IsGiven}
-use Rattle.cck_cache_server.specs.declared.given.Given.TheVariants as given
+use Rattle.cck_cache_store.specs.Given.{IsGiven}
+use Rattle.cck_cache_store.specs.declared.given.Given.TheVariants as given
 use Rattle.cck_path.specs.Bytes.{Bytes}
 use Rattle.cck_entry.specs.Statuses.{Statuses}
 use Rattle.cck_hasher.proofs.Elements.{none_in}

@@ -31,10 +31,10 @@ use Rattle.cck_markers.proofs.EachText.{has_one_list}
 use Rattle.cck_markers.specs.Marks.{Mark, Marks}
 use Rattle.cck_path.specs.Bytes.{Bytes, lists_of}
 use Rattle.cck_path.specs.Timestamp.{Moment}
-use Rattle.cck_snapshot.specs.Recordings.{IsRecording}
-use Rattle.cck_snapshot.specs.declared.recordings.RecordedEntry.{RecordedEntry}
-use Rattle.cck_snapshot.specs.declared.recordings.Recording.{Recording}
-use Rattle.cck_snapshot.specs.declared.requests.SnapshotRequest.{SnapshotRequest}
+use Rattle.c_cache_keys.specs.Recordings.{IsRecording}
+use Rattle.c_cache_keys.specs.declared.recordings.RecordedEntry.{RecordedEntry}
+use Rattle.c_cache_keys.specs.declared.recordings.Recording.{Recording}
+use Rattle.c_cache_keys.specs.declared.requests.SnapshotRequest.{SnapshotRequest}
 use Rattle.jiff.specs.Types.{Date, DateTime, TimeZone}
 use Rattle.jiff.specs.Words.{epoch_day}
 use Rattle.sha2.specs.Sha256.{sha256}

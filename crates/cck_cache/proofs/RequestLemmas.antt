@@ -13,10 +13,10 @@ use Rattle.cck_files.specs.FileMap.{FileMap}
 use Rattle.cck_path.specs.Bytes.{Bytes}
 use Rattle.cck_path.specs.Path.{components}
 use Rattle.cck_path.specs.Timestamp.{Moment}
-use Rattle.cck_snapshot.specs.External.{no_text}
-use Rattle.cck_snapshot.specs.Requests.{call_for, world_for}
-use Rattle.cck_snapshot.specs.Snapshot.{IsKeyOfPart, IsPart, over}
-use Rattle.cck_snapshot.specs.declared.requests.SnapshotRequest.{SnapshotRequest}
+use Rattle.c_cache_keys.specs.External.{no_text}
+use Rattle.c_cache_keys.specs.Requests.{call_for, world_for}
+use Rattle.c_cache_keys.specs.Snapshot.{IsKeyOfPart, IsPart, over}
+use Rattle.c_cache_keys.specs.declared.requests.SnapshotRequest.{SnapshotRequest}
 use Rattle.sha2.specs.Sha256.{sha256}
 
 -- the working directory and the variables of the compiler after the arguments

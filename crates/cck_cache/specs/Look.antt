@@ -30,8 +30,8 @@ use Rattle.cck_cache_files.specs.PathTests.{IsFirstFailing}
 use Rattle.cck_cache_files.specs.Snapshot.{ArePut, IsPart}
 use Rattle.cck_cache_files.specs.declared.store_directory.Kind.{Kind}
 use Rattle.cck_cache_files.specs.declared.store_directory.Kind.TheVariants as kind
-use Rattle.cck_cache_server.specs.Given.{IsGiven}
-use Rattle.cck_cache_server.specs.declared.given.Given.TheVariants as given
+use Rattle.cck_cache_store.specs.Given.{IsGiven}
+use Rattle.cck_cache_store.specs.declared.given.Given.TheVariants as given
 use Rattle.cck_cache_arguments.specs.declared.request.Request.{Request}
 use Rattle.cck_cache_arguments.specs.declared.task.Look.{Look}
 use Rattle.cck_cache_arguments.specs.declared.task.Outputs.{Outputs}
@@ -44,11 +44,11 @@ use Rattle.cck_util.specs.MapStore.{State, map_store}
 use Rattle.cck_hasher.specs.Call.{Keyed}
 use Rattle.cck_hasher.specs.declared.call.CacheControl.TheVariants.{Default}
 use Rattle.cck_hasher.specs.declared.hasher.opening.PreprocessorKey.{PreprocessorKey}
-use Rattle.cck_snapshot.specs.External.{Prints}
-use Rattle.cck_snapshot.specs.Requests.{call_for, world_for}
-use Rattle.cck_snapshot.specs.Snapshot.{one_pair}
-use Rattle.cck_snapshot.specs.Statuses.{AsksWith}
-use Rattle.cck_snapshot.specs.declared.requests.SnapshotRequest.{SnapshotRequest}
+use Rattle.c_cache_keys.specs.External.{Prints}
+use Rattle.c_cache_keys.specs.Requests.{call_for, world_for}
+use Rattle.c_cache_keys.specs.Snapshot.{one_pair}
+use Rattle.c_cache_keys.specs.Statuses.{AsksWith}
+use Rattle.c_cache_keys.specs.declared.requests.SnapshotRequest.{SnapshotRequest}
 use Rattle.sha2.specs.Sha256.{sha256}
 
 -- a store keeps what the server that is asked has

@@ -41,9 +41,9 @@ use Rattle.cck_files.specs.FileMap.{FileMap}
 use Rattle.cck_markers.specs.Marks.{Mark, Marks}
 use Rattle.cck_path.specs.Bytes.{Bytes, lists_of}
 use Rattle.cck_path.specs.Timestamp.{Moment}
-use Rattle.cck_snapshot.specs.Recordings.{IsRecording}
-use Rattle.cck_snapshot.specs.declared.recordings.RecordedEntry.{RecordedEntry}
-use Rattle.cck_snapshot.specs.declared.requests.SnapshotRequest.{SnapshotRequest}
+use Rattle.c_cache_keys.specs.Recordings.{IsRecording}
+use Rattle.c_cache_keys.specs.declared.recordings.RecordedEntry.{RecordedEntry}
+use Rattle.c_cache_keys.specs.declared.requests.SnapshotRequest.{SnapshotRequest}
 use Rattle.jiff.specs.Types.{DateTime, TimeZone}
 use Rattle.jiff.specs.Words.{IsTimestampNanos, civil_nanos, epoch_day, nanos_of_seconds, offset_at, plain_zone}
 use Rattle.sha2.specs.Sha256.{sha256}

@@ -21,10 +21,10 @@ use Rattle.cck_compiler.specs.declared.compiler.CCompilerKind.TheVariants.{Clang
 use Rattle.cck_files.specs.FileMap.{FileMap}
 use Rattle.cck_path.specs.Bytes.{Bytes, lists_of}
 use Rattle.cck_path.specs.Timestamp.{Moment}
-use Rattle.cck_snapshot.specs.External.{External, external_of, no_text}
-use Rattle.cck_snapshot.specs.Requests.{call_for, world_for}
-use Rattle.cck_snapshot.specs.declared.compiler.ExternalCompiler.{ExternalCompiler}
-use Rattle.cck_snapshot.specs.declared.requests.SnapshotRequest.{SnapshotRequest}
+use Rattle.c_cache_keys.specs.External.{External, external_of, no_text}
+use Rattle.c_cache_keys.specs.Requests.{call_for, world_for}
+use Rattle.c_cache_keys.specs.declared.compiler.ExternalCompiler.{ExternalCompiler}
+use Rattle.c_cache_keys.specs.declared.requests.SnapshotRequest.{SnapshotRequest}
 use Rattle.cck_include.specs.Config.{activated}
 use Rattle.cck_util.specs.declared.language.Language.{Language}
 use Rattle.cck_util.specs.declared.language.Language.TheVariants.{AssemblerToPreprocess, C, Cxx}

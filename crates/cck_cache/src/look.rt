@@ -16,17 +16,15 @@ use crate::outputs::has_outputs;
 use crate::request::{hasher_of, snapshot_request};
 use crate::server_key::server_key;
 use anyhow::{Context, Result};
-use c_cache_keys::PreprocessorKey;
+use c_cache_keys::{PreprocessorKey, SnapshotRequest, look_up, preprocessor_key};
 use cck_cache_arguments::{Look, Outputs, Request};
 use cck_cache_files::{
     ENTRY_FILES, Kind, StoreDirectory, entry_name, first_failing, unchanged_statuses,
 };
 use cck_cache_rules::{EntryFile, ObjectFile, PathStatus, entry_in, object_in};
-use cck_cache_server::{Given, Peer, given_file};
-use cck_cache_store::entry_view;
+use cck_cache_store::{Given, Peer, entry_view, given_file};
 use cck_files::MapFiles;
 use cck_path::Timestamp;
-use cck_snapshot::{SnapshotRequest, look_up, preprocessor_key};
 use cck_util::Sha256State;
 use std::alloc::{AllocError, Global};
 use std::io;

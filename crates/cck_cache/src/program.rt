@@ -25,9 +25,9 @@ use cck_cache_arguments::{
 };
 use cck_cache_files::{Kind, StoreDirectory, entry_name};
 use cck_cache_options::{CLANG, Call, GCC, NATIVE, Row, rows_of};
-use cck_cache_server::{Peer, RemotePeer, StreamPeer, address_in};
 use cck_cache_store::{
-    clear_store, limit_shares, print_files, print_stats, prune_store, verify_store,
+    Peer, RemotePeer, StreamPeer, address_in, clear_store, limit_shares, print_files, print_stats,
+    prune_store, verify_store,
 };
 use cck_path::Timestamp;
 use clap::Error;

@@ -20,7 +20,9 @@ use crate::input::input_snapshot;
 use crate::naming::name_in;
 use crate::request::{base_words, hasher_of, is_clang, snapshot_request};
 use anyhow::Result;
-use c_cache_keys::PreprocessorKey;
+use c_cache_keys::{
+    PreprocessorKey, RecordedEntry, Recording, SnapshotRequest, preprocessor_key, record_text,
+};
 use cck_cache_arguments::{Compilation, Made, Request};
 use cck_cache_files::{
     Kind, PathStates, StoreDirectory, TextStatuses, add_directory_statuses, add_named_files,
@@ -37,7 +39,6 @@ use cck_cache_text::{assembles_alone, opens_named_alone};
 use cck_digest::UtilError;
 use cck_files::MapFiles;
 use cck_path::Timestamp;
-use cck_snapshot::{RecordedEntry, Recording, SnapshotRequest, preprocessor_key, record_text};
 use cck_util::Sha256State;
 use jiff::civil::DateTime;
 use jiff::tz::TimeZone;

@@ -13,7 +13,10 @@ ghost use Rattle.cck_path.specs.Bytes.{lists_of};
 use crate::environment::Environment;
 use crate::store::store_in;
 use anyhow::{Context, Result};
-use c_cache_keys::{CCompilerHasher, CCompilerKind, ParsedArguments};
+use c_cache_keys::{
+    CCompilerHasher, CCompilerKind, ExternalCompiler, ParsedArguments, SnapshotRequest,
+    preprocessor_key,
+};
 use cck_cache_arguments::Request;
 use cck_cache_files::{compiler_digest, shared_compiler_digest};
 use cck_cache_options::{Call, is_assembler, is_cplusplus};
@@ -21,7 +24,6 @@ use cck_cache_rules::{Words, base_of};
 use cck_compiler::copy_lists;
 use cck_files::MapFiles;
 use cck_path::Timestamp;
-use cck_snapshot::{ExternalCompiler, SnapshotRequest, preprocessor_key};
 use cck_util::{Language, Sha256State};
 use std::alloc::{AllocError, Global};
 use std::rt::Files;

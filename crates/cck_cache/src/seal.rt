@@ -2,7 +2,7 @@
 use anyhow::Result;
 use cck_cache_arguments::Seal;
 use cck_cache_rules::{compress_value, sign_value};
-use cck_cache_server::read_key;
+use cck_cache_store::read_key;
 use cck_util::Sha256State;
 use std::rt::Files;
 

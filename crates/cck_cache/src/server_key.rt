@@ -1,7 +1,7 @@
 //! The key of signatures of a server.
 use anyhow::Result;
 use cck_cache_arguments::Server;
-use cck_cache_server::read_key;
+use cck_cache_store::read_key;
 use std::rt::Files;
 
 /// The key of signatures of a server, if there is one whose values are tested.

@@ -5,7 +5,7 @@ use anyhow::{Context, Result};
 use cck_cache_arguments::{Packed, Source};
 use cck_cache_files::{Kind, StoreDirectory};
 use cck_cache_rules::object_in;
-use cck_cache_server::{Given, Peer, given_file};
+use cck_cache_store::{Given, Peer, given_file};
 use std::fs;
 use std::rt::Files;
 

@@ -1,8 +1,8 @@
 use Rattle.std.proofs.Common.{Bor, List, ℕ, string_bytes, subst}
 use Rattle.std.specs.Option.{option_map}
 use Rattle.cck_cache_files.specs.declared.store_directory.Kind.TheVariants as kind
-use Rattle.cck_cache_server.specs.Given.{IsGiven}
-use Rattle.cck_cache_server.specs.declared.given.Given.TheVariants as given
+use Rattle.cck_cache_store.specs.Given.{IsGiven}
+use Rattle.cck_cache_store.specs.declared.given.Given.TheVariants as given
 use Rattle.cck_path.specs.Bytes.{Bytes}
 use Rattle.cck_cache.specs.Look.{IsObjectIn}
 use Rattle.cck_cache.proofs.LookLemmas.{object_given}

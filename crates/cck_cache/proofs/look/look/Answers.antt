@@ -4,8 +4,8 @@ use Rattle.cck_hasher.specs.Opening.{IsPreprocessorKey}
 use Rattle.cck_hasher.specs.declared.call.CacheControl.TheVariants.{Default}
 use Rattle.cck_hasher.specs.declared.hasher.opening.PreprocessorKey.{PreprocessorKey}
 use Rattle.cck_files.specs.FileMap.{FileMap}
-use Rattle.cck_snapshot.specs.External.{no_text}
-use Rattle.cck_snapshot.specs.Requests.{call_for, world_for}
+use Rattle.c_cache_keys.specs.External.{no_text}
+use Rattle.c_cache_keys.specs.Requests.{call_for, world_for}
 use Rattle.sha2.specs.Sha256.{sha256}
 use Rattle.cck_cache.specs.Input.{IsCalm}
 use Rattle.cck_cache.specs.Look.{IsLookResult, IsFoundFor}

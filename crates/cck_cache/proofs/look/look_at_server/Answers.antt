@@ -4,8 +4,8 @@ use Rattle.std.specs.declared.alloc.Global.{Global}
 use Rattle.cck_cache_files.specs.declared.store_directory.Kind.TheVariants as kind
 use Rattle.cck_cache_rules.specs.Contents.{ReadsFor, key_of_entry}
 use Rattle.cck_cache_rules.specs.Files.{IsEntryFile, entry_fields, entry_file}
-use Rattle.cck_cache_server.specs.Given.{IsGiven}
-use Rattle.cck_cache_server.specs.declared.given.Given.TheVariants as given
+use Rattle.cck_cache_store.specs.Given.{IsGiven}
+use Rattle.cck_cache_store.specs.declared.given.Given.TheVariants as given
 use Rattle.cck_path.specs.Bytes.{Bytes}
 use Rattle.cck_cache.specs.Look.{IsNameOf}
 use Rattle.cck_cache.proofs.LookLemmas.{entry_given, looked_kept}

@@ -5,7 +5,7 @@ use Rattle.cck_path.specs.Bytes.{Bytes}
 use Rattle.cck_cache_files.specs.PathTests.{IsFirstFailing}
 use Rattle.cck_cache_rules.specs.PathTest.{Test, tests_of}
 use Rattle.cck_entry.specs.Entry.{EntryText}
-use Rattle.cck_snapshot.specs.Snapshot.{IsLookedUp}
+use Rattle.c_cache_keys.specs.Snapshot.{IsLookedUp}
 use Rattle.sha2.specs.Sha256.{sha256}
 use Rattle.cck_cache.specs.Input.{NoFault}
 use Rattle.cck_cache.specs.Naming.{IsName}

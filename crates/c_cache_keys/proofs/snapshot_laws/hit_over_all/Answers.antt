@@ -1,0 +1,5 @@
+use Rattle.c_cache_keys.proofs.Parts.{hit_over_all}
+use Rattle.c_cache_keys.proofs.snapshot_laws.hit_over_all.Goals as goal
+
+pub returns : goal.returns
+returns g c = λ prints zone config basedirs. hit_over_all _

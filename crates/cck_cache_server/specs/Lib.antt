@@ -1,6 +1,0 @@
-pub mod Given
-pub mod Http
-pub mod Keys
-pub mod Number
-pub mod Peer
-pub mod Redis

@@ -1,5 +1,0 @@
-use Rattle.cck_snapshot.proofs.AdditionLemmas.{addition_to_earlier}
-use Rattle.cck_snapshot.proofs.addition_laws.addition_to_earlier.Goals as goal
-
-pub returns : goal.returns
-returns g c = λ prints zone config basedirs. addition_to_earlier _ _

@@ -1,5 +1,0 @@
-use Rattle.cck_snapshot.proofs.AdditionLemmas.{hit_is_keeping}
-use Rattle.cck_snapshot.proofs.addition_laws.hit_is_keeping.Goals as goal
-
-pub returns : goal.returns
-returns g c = λ prints zone config basedirs. hit_is_keeping _ _

@@ -1,5 +1,0 @@
-use Rattle.cck_snapshot.proofs.KeepingLemmas.{match_is_plain}
-use Rattle.cck_snapshot.proofs.keeping_laws.match_is_plain.Goals as goal
-
-pub returns : goal.returns
-returns g c = λ zone config basedirs. match_is_plain _ _ g.met.H.HashState.length_hash g.met.S.PreprocessorStore.laws

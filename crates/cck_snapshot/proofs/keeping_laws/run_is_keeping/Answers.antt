@@ -1,5 +1,0 @@
-use Rattle.cck_snapshot.proofs.KeepingLemmas.{run_is_keeping}
-use Rattle.cck_snapshot.proofs.keeping_laws.run_is_keeping.Goals as goal
-
-pub returns : goal.returns
-returns g c = λ zone config basedirs. run_is_keeping _ _

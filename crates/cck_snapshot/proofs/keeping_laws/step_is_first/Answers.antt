@@ -1,5 +1,0 @@
-use Rattle.cck_snapshot.proofs.KeepingLemmas.{step_is_first}
-use Rattle.cck_snapshot.proofs.keeping_laws.step_is_first.Goals as goal
-
-pub returns : goal.returns
-returns g c = λ zone config basedirs. step_is_first _ _

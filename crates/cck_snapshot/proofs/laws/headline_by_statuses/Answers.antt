@@ -1,5 +1,0 @@
-use Rattle.cck_snapshot.proofs.StatusLaws.{headline_by_statuses}
-use Rattle.cck_snapshot.proofs.laws.headline_by_statuses.Goals as goal
-
-pub returns : goal.returns
-returns g c = λ prints zone config basedirs. headline_by_statuses _ _ g.met.H.HashState.length_hash g.met.S.PreprocessorStore.laws

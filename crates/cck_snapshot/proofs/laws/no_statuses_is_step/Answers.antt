@@ -1,5 +1,0 @@
-use Rattle.cck_snapshot.proofs.StatusLaws.{no_statuses_is_step}
-use Rattle.cck_snapshot.proofs.laws.no_statuses_is_step.Goals as goal
-
-pub returns : goal.returns
-returns g c = λ prints zone config basedirs. no_statuses_is_step _ _

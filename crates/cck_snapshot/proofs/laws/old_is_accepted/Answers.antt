@@ -1,5 +1,0 @@
-use Rattle.cck_snapshot.proofs.StatusLemmas.{old_is_accepted}
-use Rattle.cck_snapshot.proofs.laws.old_is_accepted.Goals as goal
-
-pub returns : goal.returns
-returns g c = λ prints zone config basedirs. old_is_accepted _ g.met.H.HashState.length_hash

@@ -1,5 +1,0 @@
-use Rattle.cck_snapshot.proofs.Stores.{recording_on_any_store}
-use Rattle.cck_snapshot.proofs.laws.recording_on_any_store.Goals as goal
-
-pub returns : goal.returns
-returns g c = λ prints zone config basedirs. recording_on_any_store _ _

@@ -1,5 +1,0 @@
-use Rattle.cck_snapshot.proofs.StatusLaws.{statuses_are_matches}
-use Rattle.cck_snapshot.proofs.laws.statuses_are_matches.Goals as goal
-
-pub returns : goal.returns
-returns g c = λ prints zone config basedirs. statuses_are_matches _ g.met.H.HashState.length_hash
