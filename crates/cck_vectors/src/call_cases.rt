@@ -1,7 +1,7 @@
 //! Cases of compilers, stores, calls for keys and lists of calls; and [`examples`], calls at types of a
 //! caller's own.
 //!
-//! [`run_file`] runs a vector file. `docs/TESTING.md` has the grammar.
+//! [`Calls`] is the subject of a vector file. `docs/TESTING.md` has the grammar.
 //!
 //! Lines give a compilation, and what the call for its key is made under:
 //!
@@ -38,14 +38,4 @@ mod request;
 mod shown;
 mod stores;
 
-use crate::call_cases::calls::Calls;
-use std::io;
-
-/// Runs the cases of a file as [`cck_cases::run_file`] does.
-///
-/// # Errors
-///
-/// Those of [`cck_cases::run_file`].
-pub(crate) fn run_file(rt: &HostRuntime, name: &str) -> io::Result<bool> {
-    cck_cases::run_file::<Calls>(rt, name)
-}
+pub(crate) use calls::Calls;

@@ -1,7 +1,7 @@
 //! FileCases of the calls on maps of paths, files, digests of files, wrappers, time parts, recorded
 //! digests, preprocessor keys and entries, and of walks over line markers.
 //!
-//! [`run_file`] runs a vector file, and [`run_walk_file`] one of line markers and walks.
+//! [`FileCases`] is the subject of a vector file, and [`WalkCases`] that of one of line markers and walks.
 //! `docs/TESTING.md` has the grammar. Beside the words that are known in every file, and those of
 //! arguments, variables and files, those of `wanted.rt` are known here.
 
@@ -20,24 +20,5 @@ mod walk_cases;
 mod walks;
 mod wanted;
 
-use crate::file_cases::cases::FileCases;
-use crate::file_cases::walk_cases::WalkCases;
-use std::io;
-
-/// Runs the cases of a file as [`cck_cases::run_file`] does.
-///
-/// # Errors
-///
-/// Those of [`cck_cases::run_file`].
-pub(crate) fn run_file(rt: &HostRuntime, name: &str) -> io::Result<bool> {
-    cck_cases::run_file::<FileCases>(rt, name)
-}
-
-/// Runs the cases of a file as [`cck_cases::run_file`] does.
-///
-/// # Errors
-///
-/// Those of [`cck_cases::run_file`].
-pub(crate) fn run_walk_file(rt: &HostRuntime, name: &str) -> io::Result<bool> {
-    cck_cases::run_file::<WalkCases>(rt, name)
-}
+pub(crate) use cases::FileCases;
+pub(crate) use walk_cases::WalkCases;

@@ -1,7 +1,7 @@
 //! The program `cck_vectors`: makes the calls of vector files, and compares their results.
 //!
 //! The words after its name are vector files. The folder that a file is in says which module knows its
-//! calls, or that `cck_cases` does; `docs/TESTING.md` has a table of them, and the grammar of the files.
+//! calls; `docs/TESTING.md` has a table of them, and the grammar of the files.
 //! For each file the program prints each difference, and the number of results. For the word `examples`
 //! it prints the results of [`examples`].
 //!
@@ -10,10 +10,16 @@
 #![tactic(auto)]
 
 mod call_cases;
+mod cases;
 mod file_cases;
 mod script_cases;
+mod value_cases;
 
-use crate::call_cases::examples;
+use crate::call_cases::{Calls, examples};
+use crate::cases::run_file;
+use crate::file_cases::{FileCases, WalkCases};
+use crate::script_cases::Scripts;
+use crate::value_cases::Values;
 use std::process::ExitCode;
 use std::{env, io};
 
@@ -39,11 +45,11 @@ fn run_word(rt: &HostRuntime, name: &str) -> io::Result<bool> {
         return print_examples(rt);
     }
     match folder_of(name) {
-        "values" => cck_cases::run_value_file(rt, name),
-        "files" => file_cases::run_file(rt, name),
-        "walks" => file_cases::run_walk_file(rt, name),
-        "calls" => call_cases::run_file(rt, name),
-        "scripts" => script_cases::run_file(rt, name),
+        "values" => run_file::<Values>(rt, name),
+        "files" => run_file::<FileCases>(rt, name),
+        "walks" => run_file::<WalkCases>(rt, name),
+        "calls" => run_file::<Calls>(rt, name),
+        "scripts" => run_file::<Scripts>(rt, name),
         _ => Err(io::Error::from(io::ErrorKind::NotFound)),
     }
 }

@@ -1,6 +1,6 @@
 //! Cases of the calls on scripts, on the small preprocessor and on the program `cck` as a function.
 //!
-//! [`run_file`] runs a vector file. `docs/TESTING.md` has the grammar. A script is made of the lines of
+//! [`Scripts`] is the subject of a vector file. `docs/TESTING.md` has the grammar. A script is made of the lines of
 //! `line TEXT`, each as it is, and after them the bytes of a call.
 //!
 //! | call | what is called, and its result |
@@ -44,14 +44,4 @@ mod scripts;
 mod streams;
 mod subject;
 
-use crate::script_cases::subject::Scripts;
-use std::io;
-
-/// Runs the cases of a file as [`cck_cases::run_file`] does.
-///
-/// # Errors
-///
-/// Those of [`cck_cases::run_file`].
-pub(crate) fn run_file(rt: &HostRuntime, name: &str) -> io::Result<bool> {
-    cck_cases::run_file::<Scripts>(rt, name)
-}
+pub(crate) use subject::Scripts;

@@ -1,6 +1,6 @@
 //! What lines give of a parsed command line.
+use crate::cases::{CaseError, bytes_of, find, words_of};
 use c_cache_keys::{ArtifactDescriptor, ColorMode, ParsedArguments};
-use cck_cases::{CaseError, bytes_of, find, words_of};
 use cck_util::Language;
 use std::alloc::Global;
 

@@ -7,8 +7,10 @@ use crate::call_cases::lists::{self, FixedCall};
 use crate::call_cases::noting_files::NotingFiles;
 use crate::call_cases::request::GivenRequest;
 use crate::call_cases::stores::{self, Stores};
+use crate::cases::{
+    CaseError, CaseLine, Given, GivenFiles, Subject, Value, bytes_of, find, number,
+};
 use c_cache_keys::{HashResult, KeyError};
-use cck_cases::{CaseError, CaseLine, Given, GivenFiles, Subject, Value, bytes_of, find, number};
 use cck_util::MapFiles;
 use std::alloc::Global;
 use std::mem;

@@ -4,11 +4,11 @@ use crate::call_cases::request::GivenRequest;
 use crate::call_cases::shown::{
     error_value, or_out_of_memory, write_arguments, write_word, write_words,
 };
+use crate::cases::{CaseError, Given, Value};
 use c_cache_keys::{
     CCompiler, CCompilerHasher, CCompilerImpl, CCompilerKind, CompilerArguments, KeyError,
     ParsedArguments,
 };
-use cck_cases::{CaseError, Given, Value};
 use cck_util::{MapFiles, Sha256State};
 use std::alloc::Global;
 

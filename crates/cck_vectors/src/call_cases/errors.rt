@@ -1,6 +1,6 @@
 //! Errors, by their numbers and texts.
+use crate::cases::{CaseError, Value, find};
 use c_cache_keys::{KeyError, PreprocessError, StoreError};
-use cck_cases::{CaseError, Value, find};
 use cck_digest::Error;
 use cck_util::{FileError, UtilError};
 use std::alloc::Global;

@@ -2,8 +2,8 @@
 use crate::call_cases::noting_files::NotingFiles;
 use crate::call_cases::request::GivenRequest;
 use crate::call_cases::shown::{error_value, write_result};
+use crate::cases::{CaseError, Given, GivenFiles, Value, zone_of};
 use c_cache_keys::{CCompilerImpl, HashResult, KeyError, PreprocessError, PreprocessorStore};
-use cck_cases::{CaseError, Given, GivenFiles, Value, zone_of};
 use cck_util::{Files, Sha256State, UtilError};
 use std::alloc::Global;
 

@@ -1,8 +1,8 @@
 //! What lines give of the compilation that a key is asked for.
 use crate::call_cases::arguments;
 use crate::call_cases::fixed_compiler::{FixedCompiler, FixedReading};
+use crate::cases::{CaseError, bytes_of, find};
 use c_cache_keys::{CCompilerHasher, CCompilerKind, CacheControl};
-use cck_cases::{CaseError, bytes_of, find};
 use cck_util::Language;
 use std::alloc::Global;
 

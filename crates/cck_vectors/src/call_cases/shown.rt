@@ -1,6 +1,6 @@
 //! How what the calls return is written.
+use crate::cases::{CaseError, Value};
 use c_cache_keys::{ArtifactDescriptor, ColorMode, HashResult, KeyError, ParsedArguments};
-use cck_cases::{CaseError, Value};
 use cck_util::UtilError;
 use std::alloc::Global;
 

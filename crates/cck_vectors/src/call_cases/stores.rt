@@ -1,6 +1,6 @@
 //! Stores.
+use crate::cases::{CaseError, CaseLine, Value, find, number};
 use c_cache_keys::{EmptyStore, MapStore, PreprocessorStore, StoreError};
-use cck_cases::{CaseError, CaseLine, Value, find, number};
 use cck_util::UtilError;
 use std::alloc::Global;
 

@@ -1,7 +1,7 @@
 //! The calls of this library.
+use crate::cases::{CaseError, CaseLine, Given, GivenFiles, Subject, Value, find};
 use crate::file_cases::wanted::Wanted;
 use crate::file_cases::{digests, entries, errors, files, keys, path_map, times};
-use cck_cases::{CaseError, CaseLine, Given, GivenFiles, Subject, Value, find};
 use cck_entry::PreprocessorCacheEntry;
 use cck_path::PathMap;
 use cck_util::MapFiles;

@@ -1,7 +1,7 @@
 //! Digests of files and of directories, contents of files, and the compilers that wrappers run.
+use crate::cases::{CaseError, Value};
 use crate::file_cases::cases::FileCases;
 use crate::file_cases::shown::{write_names, write_texts};
-use cck_cases::{CaseError, Value};
 use cck_files::sorted_names;
 use cck_util::{
     Digest, DigestFiles, MapFiles, Sha256State, TimeMacroFinder, WatchedDigest, feed_file,

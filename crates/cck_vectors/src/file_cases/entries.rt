@@ -1,7 +1,7 @@
 //! Entries, their bytes, what is added to them, and the look-up.
+use crate::cases::{CaseError, CaseLine, FailWriter, Value, number, words_of};
 use crate::file_cases::cases::FileCases;
 use crate::file_cases::shown::{write_counts, write_entry, write_includes};
-use cck_cases::{CaseError, CaseLine, FailWriter, Value, number, words_of};
 use cck_entry::{
     EntryView, Error, IncludeEntry, JudgeContext, KnownFiles, PreprocessorCacheEntry, ResultRef,
     gather, includes_match,

@@ -1,5 +1,5 @@
 //! The texts of the errors of entries.
-use cck_cases::{CaseError, Value, find};
+use crate::cases::{CaseError, Value, find};
 use cck_digest::Error;
 use cck_util::{FileError, UtilError};
 use std::alloc::Global;

@@ -1,7 +1,7 @@
 //! Files in memory.
+use crate::cases::{CaseError, Value};
 use crate::file_cases::cases::FileCases;
 use crate::file_cases::shown::{write_metadata, write_names};
-use cck_cases::{CaseError, Value};
 use cck_util::{FileKind, Files, Node};
 use std::mem::swap;
 

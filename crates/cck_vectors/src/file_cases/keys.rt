@@ -1,7 +1,7 @@
 //! Preprocessor keys.
+use crate::cases::{CaseError, Value};
 use crate::file_cases::cases::FileCases;
 use crate::file_cases::times::found_text;
-use cck_cases::{CaseError, Value};
 use cck_entry::preprocessor_cache_entry_hash_key;
 use cck_util::{MapFiles, Sha256State};
 

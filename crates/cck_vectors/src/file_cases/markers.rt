@@ -1,5 +1,5 @@
 //! Line markers and marks of texts.
-use cck_cases::{CaseError, Value, end_line, write_numbers};
+use crate::cases::{CaseError, Value, end_line, write_numbers};
 use cck_digest::{Digest, Sha256State};
 use cck_markers::{Line, Mark, Markers, read_line};
 use std::alloc::{AllocError, Global};

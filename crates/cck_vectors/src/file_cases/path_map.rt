@@ -1,7 +1,7 @@
 //! Maps keyed by paths. The values are texts.
+use crate::cases::{CaseError, Value};
 use crate::file_cases::cases::FileCases;
 use crate::file_cases::shown::write_pairs;
-use cck_cases::{CaseError, Value};
 
 #[derive(Clone, Copy)]
 pub(crate) enum MapCall {

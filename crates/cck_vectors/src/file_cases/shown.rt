@@ -1,5 +1,5 @@
 //! How results are written that several calls return.
-use cck_cases::{end_line, write_moment};
+use crate::cases::{end_line, write_moment};
 use cck_entry::{IncludeEntry, PreprocessorCacheEntry};
 use cck_path::Entries;
 use cck_util::{FileKind, Metadata};

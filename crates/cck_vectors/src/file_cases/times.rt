@@ -1,6 +1,6 @@
 //! Time parts, recorded digests, and the options.
+use crate::cases::{CaseError, Value};
 use crate::file_cases::cases::FileCases;
-use cck_cases::{CaseError, Value};
 use cck_include::{PreprocessorCacheModeConfig, local_time_part, recorded_digest};
 use cck_util::{MapFiles, Sha256State};
 use std::alloc::Global;

@@ -1,8 +1,8 @@
 //! The calls of this library.
+use crate::cases::{CaseError, CaseLine, Subject, Value, find};
 use crate::file_cases::texts::Texts;
 use crate::file_cases::walks::Walks;
 use crate::file_cases::{markers, walks};
-use cck_cases::{CaseError, CaseLine, Subject, Value, find};
 use std::alloc::Global;
 
 /// What lines give to calls on line markers and to walks.

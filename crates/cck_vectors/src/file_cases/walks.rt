@@ -1,5 +1,5 @@
 //! Walks over texts and over single line markers.
-use cck_cases::{
+use crate::cases::{
     CaseError, CaseLine, Given, GivenFiles, Value, bytes_of, find, number, write_numbers, zone_of,
 };
 use cck_digest::{Digest, FileError, Sha256State, UtilError};

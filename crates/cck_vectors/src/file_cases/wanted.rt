@@ -1,5 +1,5 @@
 //! What lines give to calls on files and entries, beside what the library of cases reads.
-use cck_cases::{CaseError, bytes_of, find, number, optional_moment_of, words_of, zone_of};
+use crate::cases::{CaseError, bytes_of, find, number, optional_moment_of, words_of, zone_of};
 use cck_util::Timestamp;
 use jiff::tz::TimeZone;
 use std::alloc::Global;

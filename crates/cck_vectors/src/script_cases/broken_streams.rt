@@ -1,9 +1,9 @@
 //! Each failure of the reader or the writer of a run of the program, in turn.
+use crate::cases::{CaseError, Failures};
 use crate::script_cases::commands::write_number;
 use crate::script_cases::engine::{run_words, strings_of};
 use crate::script_cases::failures::write_end;
 use crate::script_cases::streams::Streams;
-use cck_cases::{CaseError, Failures};
 use cck_command::Status;
 use cck_util::{Digest, Sha256State};
 use std::alloc::Global;

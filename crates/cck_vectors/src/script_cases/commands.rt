@@ -1,5 +1,5 @@
 //! How the lines of a script are written once they are read.
-use cck_cases::write_moment;
+use crate::cases::write_moment;
 use cck_script::Command;
 use cck_util::Timestamp;
 use std::alloc::{AllocError, Global};

@@ -1,6 +1,6 @@
 //! The compiler of scripts.
+use crate::cases::{CaseError, GivenFiles, words_of};
 use crate::script_cases::commands::{write_bracketed, write_list};
-use cck_cases::{CaseError, GivenFiles, words_of};
 use cck_command::MiniCompiler;
 use cck_compiler::{CCompilerImpl, ColorMode, CompilerArguments, ParsedArguments, PreprocessError};
 use cck_util::UtilError;

@@ -1,7 +1,7 @@
 //! The program as a function.
+use crate::cases::{CaseError, FailReader, FailWriter, words_of};
 use crate::script_cases::commands::write_number;
 use crate::script_cases::streams::Streams;
-use cck_cases::{CaseError, FailReader, FailWriter, words_of};
 use cck_command::{Status, engine, refuse};
 use cck_util::Sha256State;
 use std::alloc::{AllocError, Global};

@@ -1,9 +1,9 @@
 //! The calls of a script as a list, and failures among them.
+use crate::cases::{CaseError, end_line, find};
 use crate::script_cases::broken_streams::{self, Broken};
 use crate::script_cases::failures::{self, FailureCause};
 use crate::script_cases::lists::{CallResult, List, write_call_result};
 use crate::script_cases::streams::Streams;
-use cck_cases::{CaseError, end_line, find};
 use std::alloc::{AllocError, Global};
 
 #[derive(Clone, Copy)]

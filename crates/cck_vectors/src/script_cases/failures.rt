@@ -1,10 +1,10 @@
 //! Each failure of one cause in turn, over the calls of a script.
+use crate::cases::CaseError;
 use crate::script_cases::commands::write_number;
 use crate::script_cases::lists::{
     Alone, CallResult, List, MiniCall, hold, is_held_alike, keys_of, write_call_result,
 };
 use c_cache_keys::{HashResult, KeyError, MapStore, PreprocessError};
-use cck_cases::CaseError;
 use cck_util::{Digest, FileError, Sha256State, UtilError};
 use std::alloc::{AllocError, Global};
 

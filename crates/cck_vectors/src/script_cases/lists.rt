@@ -1,8 +1,8 @@
 //! The calls of a script as a list, made on a store.
+use crate::cases::CaseError;
 use crate::script_cases::commands::write_number;
 use c_cache_keys::cck_entry::PreprocessorCacheEntry;
 use c_cache_keys::{Call, HashResult, KeyError, MapStore, PreprocessorStore, run_calls};
-use cck_cases::CaseError;
 use cck_command::{
     Failed, MiniCompiler, RunOptions, Script, ScriptError, compiler_of, ready_calls, zone_at,
 };

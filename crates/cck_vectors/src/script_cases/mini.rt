@@ -1,5 +1,5 @@
 //! The small preprocessor.
-use cck_cases::{CaseError, GivenFiles};
+use crate::cases::{CaseError, GivenFiles};
 use cck_command::{PrintError, print_input};
 use cck_util::UtilError;
 use std::alloc::{AllocError, Global};

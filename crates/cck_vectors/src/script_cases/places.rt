@@ -1,6 +1,6 @@
 //! What is at paths, and which variables there are, as the lines of a script leave them.
+use crate::cases::{CaseError, end_line, words_of};
 use crate::script_cases::commands::{write_bracketed, write_times};
-use cck_cases::{CaseError, end_line, words_of};
 use cck_script::Surroundings;
 use cck_util::{FileError, FileKind, Files, MapFiles, Metadata, read_contents};
 use std::alloc::{AllocError, Global};

@@ -1,9 +1,9 @@
 //! Scripts.
+use crate::cases::{CaseError, end_line, number};
 use crate::script_cases::commands::{
     write_call, write_command, write_list, write_number, write_offset,
 };
 use crate::script_cases::places::write_surroundings;
-use cck_cases::{CaseError, end_line, number};
 use cck_command::{RunOptions, Script, ScriptError};
 use cck_script::Surroundings;
 use cck_util::UtilError;

@@ -1,5 +1,5 @@
 //! The reader and the writer of a run of the program.
-use cck_cases::{CaseError, FailReader, FailWriter, Failures, bytes_of, find, number};
+use crate::cases::{CaseError, FailReader, FailWriter, Failures, bytes_of, find, number};
 use std::alloc::Global;
 use std::io;
 

@@ -1,8 +1,8 @@
 //! The calls of these cases.
+use crate::cases::{CaseError, CaseLine, GivenFiles, Subject, Value, bytes_of, find, number};
 use crate::script_cases::failing_calls::{self, ListCall, ListGiven};
 use crate::script_cases::streams::Streams;
 use crate::script_cases::{compiler, engine, mini, scripts};
-use cck_cases::{CaseError, CaseLine, GivenFiles, Subject, Value, bytes_of, find, number};
 use cck_util::{Digest, Sha256State};
 use std::alloc::{AllocError, Global};
 

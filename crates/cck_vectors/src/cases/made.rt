@@ -1,7 +1,7 @@
 //! Bytes that lines make before a call.
-use crate::case_error::CaseError;
-use crate::table::find;
-use crate::text::{byte_of, bytes_of, number, parts_of};
+use crate::cases::case_error::CaseError;
+use crate::cases::table::find;
+use crate::cases::text::{byte_of, bytes_of, number, parts_of};
 use std::alloc::Global;
 
 #[derive(Clone, Copy)]

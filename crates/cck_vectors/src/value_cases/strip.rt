@@ -1,7 +1,6 @@
 //! Base directories cut out of texts and arguments.
-use crate::text::parts_of;
+use crate::cases::{CaseError, Given, Value, bytes_of, number, parts_of, write_cut, write_numbers};
 use crate::value_cases::searches::strip_by_searches;
-use crate::{CaseError, Given, Value, bytes_of, number, write_cut, write_numbers};
 use cck_util::{
     BasedirTrie, Digest, Sha256State, pathname_positions, strip_basedirs, strip_basedirs_from_arg,
 };

@@ -1,6 +1,5 @@
 //! The lines that configure a reader and a writer.
-use crate::text::parts_of;
-use crate::{CaseError, FailReader, FailWriter, Failures, number};
+use crate::cases::{CaseError, FailReader, FailWriter, Failures, number, parts_of};
 use std::alloc::Global;
 use std::io;
 

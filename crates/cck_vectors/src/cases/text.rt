@@ -1,12 +1,12 @@
 //! Bytes, words, numbers and times, as a vector file writes them.
-use crate::case_error::CaseError;
+use crate::cases::case_error::CaseError;
 use cck_util::{Timestamp, UtilError, ascii_unescape_default};
 use jiff::tz::{Offset, TimeZone};
 use std::alloc::Global;
 use std::str::FromStr;
 
 /// Returns the bytes of an escaped text.
-pub fn bytes_of(alloc: Global, text: &str) -> Result<Vec<u8>, CaseError> {
+pub(crate) fn bytes_of(alloc: Global, text: &str) -> Result<Vec<u8>, CaseError> {
     match ascii_unescape_default(alloc, text.as_bytes()) {
         Ok(bytes) => Ok(bytes),
         Err(UtilError::Memory) => Err(CaseError::Util(UtilError::Memory)),
@@ -15,7 +15,7 @@ pub fn bytes_of(alloc: Global, text: &str) -> Result<Vec<u8>, CaseError> {
 }
 
 /// Returns the words of a text, which spaces separate. `""` is the empty word.
-pub fn words_of(alloc: Global, text: &str) -> Result<Vec<Vec<u8>>, CaseError> {
+pub(crate) fn words_of(alloc: Global, text: &str) -> Result<Vec<Vec<u8>>, CaseError> {
     let mut words = Vec::new(alloc);
     for word in text.split_whitespace() {
         let text = if word == "\"\"" { "" } else { word };
@@ -25,7 +25,10 @@ pub fn words_of(alloc: Global, text: &str) -> Result<Vec<Vec<u8>>, CaseError> {
 }
 
 /// Returns the variables of a text, each as `NAME=VALUE`, which spaces separate.
-pub fn variables_of(alloc: Global, text: &str) -> Result<Vec<(Vec<u8>, Vec<u8>)>, CaseError> {
+pub(crate) fn variables_of(
+    alloc: Global,
+    text: &str,
+) -> Result<Vec<(Vec<u8>, Vec<u8>)>, CaseError> {
     let mut variables = Vec::new(alloc);
     for word in text.split_whitespace() {
         let (name, value) = word.split_once('=').ok_or(CaseError::Line)?;
@@ -44,7 +47,7 @@ pub(crate) fn parts_of(text: &str) -> Result<(&str, &str), CaseError> {
 }
 
 /// Returns the number in a text.
-pub fn number<T: FromStr>(text: &str) -> Result<T, CaseError>
+pub(crate) fn number<T: FromStr>(text: &str) -> Result<T, CaseError>
 where
     T::Err: Drop,
 {
@@ -55,7 +58,7 @@ where
 }
 
 /// Returns the zone that is this many seconds east of UTC.
-pub fn zone_of(seconds: i32) -> Result<TimeZone<'static>, CaseError> {
+pub(crate) fn zone_of(seconds: i32) -> Result<TimeZone<'static>, CaseError> {
     match Offset::from_seconds(seconds) {
         Ok(offset) => Ok(TimeZone::fixed(offset)),
         Err(_) => Err(CaseError::Line),
@@ -63,7 +66,7 @@ pub fn zone_of(seconds: i32) -> Result<TimeZone<'static>, CaseError> {
 }
 
 /// Returns the byte of two hexadecimal digits.
-pub fn byte_of(digits: &str) -> Result<u8, CaseError> {
+pub(crate) fn byte_of(digits: &str) -> Result<u8, CaseError> {
     match u8::from_str_radix(digits, 16) {
         Ok(byte) => Ok(byte),
         Err(_) => Err(CaseError::Line),
@@ -71,7 +74,7 @@ pub fn byte_of(digits: &str) -> Result<u8, CaseError> {
 }
 
 /// Returns the time that is this number of nanoseconds after the start of 1970.
-pub fn moment_of(text: &str) -> Result<Timestamp, CaseError> {
+pub(crate) fn moment_of(text: &str) -> Result<Timestamp, CaseError> {
     let nanoseconds = number::<i128>(text)?;
     if Timestamp::fits_nanos(nanoseconds) {
         Ok(Timestamp::from_nanos(nanoseconds))
@@ -81,7 +84,7 @@ pub fn moment_of(text: &str) -> Result<Timestamp, CaseError> {
 }
 
 /// Returns the time that is this number of nanoseconds after the start of 1970, or none for `-`.
-pub fn optional_moment_of(text: &str) -> Result<Option<Timestamp>, CaseError> {
+pub(crate) fn optional_moment_of(text: &str) -> Result<Option<Timestamp>, CaseError> {
     if text == "-" {
         return Ok(None);
     }

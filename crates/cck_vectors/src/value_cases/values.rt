@@ -1,7 +1,7 @@
 //! The calls of this library.
+use crate::cases::{CaseError, CaseLine, Given, Subject, Value, find, words_of};
 use crate::value_cases::streams::Streams;
 use crate::value_cases::{digests, errors, finder, keys, paths, readers, strip, texts, times};
-use crate::{CaseError, CaseLine, Given, Subject, Value, find, words_of};
 use std::alloc::Global;
 
 /// What lines give to calls on bytes.

@@ -1,7 +1,7 @@
 //! The run of a vector file.
-use crate::report::Report;
-use crate::session::run_lines;
-use crate::subject::Subject;
+use crate::cases::report::Report;
+use crate::cases::session::run_lines;
+use crate::cases::subject::Subject;
 use std::{fs, io};
 
 fn no_memory() -> io::Error {
@@ -17,7 +17,7 @@ fn no_memory() -> io::Error {
 /// - [`OutOfMemory`] if memory is lacking. What was found until then is printed.
 ///
 /// [`OutOfMemory`]: io::ErrorKind::OutOfMemory
-pub fn run_file<S: Subject + Drop>(rt: &HostRuntime, name: &str) -> io::Result<bool> {
+pub(crate) fn run_file<S: Subject + Drop>(rt: &HostRuntime, name: &str) -> io::Result<bool> {
     let alloc = rt.alloc();
     let text = fs::read_to_string(rt, name)?;
     let mut report = Report::new(alloc, name);

@@ -1,7 +1,7 @@
 //! What lines give for calls on files: the files, the call time, the zone and the options.
-use crate::case_error::CaseError;
-use crate::table::find;
-use crate::text::{bytes_of, moment_of, number, optional_moment_of, parts_of};
+use crate::cases::case_error::CaseError;
+use crate::cases::table::find;
+use crate::cases::text::{bytes_of, moment_of, number, optional_moment_of, parts_of};
 use cck_include::PreprocessorCacheModeConfig;
 use cck_util::{FileKind, MapFiles, Node, Timestamp};
 use std::alloc::Global;
@@ -34,20 +34,20 @@ const WORDS: [(&str, Word); 10] = [
 ];
 
 /// What lines give for calls on files.
-pub struct GivenFiles {
+pub(crate) struct GivenFiles {
     /// The allocator of all that is given.
-    pub alloc: Global,
+    pub(crate) alloc: Global,
     /// `file PATH MODIFIED CHANGED TEXT`, `dir PATH`, `other PATH`, `link PATH TARGET`, `gone PATH`,
     /// `fail_at N` and `fail_after N`: the files, which are in memory. None at first. Times are
     /// nanoseconds since 1970, or `-` for none; directories and others have none.
-    pub files: MapFiles,
+    pub(crate) files: MapFiles,
     /// `moment NANOSECONDS`: the call time. 100 seconds after the start of 1970 at first.
-    pub moment: Timestamp,
+    pub(crate) moment: Timestamp,
     /// `zone SECONDS`: the offset of local time, in seconds east of UTC. 0 at first.
-    pub zone: i32,
+    pub(crate) zone: i32,
     /// `option NAME on` and `option NAME off`: the options. Those of
     /// [`activated`](PreprocessorCacheModeConfig::activated) at first.
-    pub config: PreprocessorCacheModeConfig,
+    pub(crate) config: PreprocessorCacheModeConfig,
 }
 
 impl Drop for GivenFiles {
@@ -77,7 +77,7 @@ fn file_of(alloc: Global, rest: &str) -> Result<Node, CaseError> {
 
 impl GivenFiles {
     /// Returns the state in which nothing is given.
-    pub fn new(alloc: Global) -> GivenFiles {
+    pub(crate) fn new(alloc: Global) -> GivenFiles {
         GivenFiles {
             alloc,
             files: MapFiles::new(alloc),
@@ -88,7 +88,7 @@ impl GivenFiles {
     }
 
     /// Applies a line, and returns whether its word is known here.
-    pub fn give(&mut self, name: &str, rest: &str) -> Result<bool, CaseError> {
+    pub(crate) fn give(&mut self, name: &str, rest: &str) -> Result<bool, CaseError> {
         let Some(word) = find(&WORDS, name) else {
             return Ok(false);
         };

@@ -1,5 +1,5 @@
 //! Digests of known bytes, and of what calls feed.
-use crate::{CaseError, Given, Value};
+use crate::cases::{CaseError, Given, Value};
 use cck_util::{
     Digest, HASH_BUFFER_SIZE, HashState, Sha256State, hash_arguments, hash_len_prefixed,
     hash_length, hash_option, hash_request_variables, hash_text_list, hash_variable_list, hex,

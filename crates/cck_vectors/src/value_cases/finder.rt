@@ -1,5 +1,5 @@
 //! The time macros in a stream.
-use crate::{CaseError, Value};
+use crate::cases::{CaseError, Value};
 use cck_util::{Digest, SeenMacros, Sha256State, TimeMacroFinder};
 use std::alloc::Global;
 

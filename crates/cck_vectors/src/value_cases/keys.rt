@@ -1,6 +1,6 @@
 //! Languages, and keys of objects.
+use crate::cases::{CaseError, Given, Value};
 use crate::value_cases::texts::text_of;
-use crate::{CaseError, Given, Value};
 use cck_util::{CACHE_VERSION, HashKeyParams, Language, Sha256State};
 use std::alloc::{AllocError, Global};
 

@@ -1,19 +1,19 @@
 //! The calls of a library of cases.
-use crate::case_error::CaseError;
-use crate::value::Value;
+use crate::cases::case_error::CaseError;
+use crate::cases::value::Value;
 use std::alloc::Global;
 
 /// The line of a call.
 #[derive(Clone, Copy)]
-pub struct CaseLine<'a> {
+pub(crate) struct CaseLine<'a> {
     /// The text after the name of the call.
-    pub rest: &'a str,
+    pub(crate) rest: &'a str,
     /// The bytes that the lines before made, and after them those of `rest`.
-    pub bytes: &'a [u8],
+    pub(crate) bytes: &'a [u8],
 }
 
 /// The calls that a library knows, and what lines give for them.
-pub trait Subject {
+pub(crate) trait Subject {
     /// Returns the state in which nothing is given, as it is at the beginning of each case.
     fn new(alloc: Global) -> Self;
 

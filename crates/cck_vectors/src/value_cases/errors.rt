@@ -1,5 +1,5 @@
 //! The errors of the libraries, and their texts.
-use crate::{CaseError, Value, find};
+use crate::cases::{CaseError, Value, find};
 use cck_util::{FileError, UnknownLanguage, UtilError};
 use std::alloc::Global;
 

@@ -1,5 +1,5 @@
 //! What calls return, and how a vector file writes it.
-use crate::case_error::CaseError;
+use crate::cases::case_error::CaseError;
 use cck_util::Timestamp;
 use std::alloc::{AllocError, Global};
 use std::borrow::CowSlice;
@@ -7,7 +7,7 @@ use std::cmp::Ordering;
 use std::fmt::Debug;
 
 /// What a call returns.
-pub enum Value<'a> {
+pub(crate) enum Value<'a> {
     /// These bytes.
     Bytes(Vec<u8>),
     /// These bytes of what the case was given.
@@ -92,7 +92,7 @@ fn write_part(out: &mut Vec<u8>, part: Option<&[u8]>) -> Result<(), AllocError> 
 }
 
 /// Ends the line before, if there is one.
-pub fn end_line(out: &mut Vec<u8>) -> Result<(), AllocError> {
+pub(crate) fn end_line(out: &mut Vec<u8>) -> Result<(), AllocError> {
     if out.is_empty() {
         return Ok(());
     }
@@ -100,7 +100,7 @@ pub fn end_line(out: &mut Vec<u8>) -> Result<(), AllocError> {
 }
 
 /// Writes `kept` if nothing was cut, or `cut` and what remains.
-pub fn write_cut(out: &mut Vec<u8>, kept: &CowSlice<'_, u8>) -> Result<(), AllocError> {
+pub(crate) fn write_cut(out: &mut Vec<u8>, kept: &CowSlice<'_, u8>) -> Result<(), AllocError> {
     match kept {
         CowSlice::Borrowed(_) => out.extend_from_slice(b"kept"),
         CowSlice::Owned(bytes) => {
@@ -111,7 +111,7 @@ pub fn write_cut(out: &mut Vec<u8>, kept: &CowSlice<'_, u8>) -> Result<(), Alloc
 }
 
 /// Writes each number, with a space before it if `out` has bytes already.
-pub fn write_numbers(
+pub(crate) fn write_numbers(
     alloc: Global,
     out: &mut Vec<u8>,
     numbers: &[usize],
@@ -134,7 +134,7 @@ fn order_word(order: Ordering) -> &'static str {
 }
 
 /// Writes the seconds and the nanoseconds of a time, or `-`.
-pub fn write_moment(
+pub(crate) fn write_moment(
     alloc: Global,
     out: &mut Vec<u8>,
     moment: Option<Timestamp>,

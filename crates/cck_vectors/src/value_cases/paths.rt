@@ -1,6 +1,6 @@
 //! Paths: how they are read, compared, joined and written.
+use crate::cases::{CaseError, Given, Value};
 use crate::value_cases::streams::Streams;
-use crate::{CaseError, Given, Value};
 use cck_util::{
     Component, Components, compare_paths, decode_path, encode_path, extension, file_name,
     is_absolute, join_path, normalize_path, normalize_win_path, same_path,

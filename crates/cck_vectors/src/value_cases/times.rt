@@ -1,6 +1,5 @@
 //! Times, and the times of a file.
-use crate::text::parts_of;
-use crate::{CaseError, Value, moment_of, number, optional_moment_of};
+use crate::cases::{CaseError, Value, moment_of, number, optional_moment_of, parts_of};
 use cck_util::{FileKind, Metadata, MetadataCtimeExt, Timestamp};
 
 #[derive(Clone, Copy)]

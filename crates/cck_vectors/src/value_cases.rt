@@ -1,6 +1,6 @@
 //! Cases of the calls on bytes, paths, texts, times, digests, readers and keys.
 //!
-//! [`run_value_file`] runs a vector file. These words are known beside those of every file:
+//! [`Values`] is the subject of a vector file. These words are known beside those of every file:
 //!
 //! | word | meaning |
 //! |---|---|
@@ -22,15 +22,4 @@ mod texts;
 mod times;
 mod values;
 
-use crate::run_file;
-use crate::value_cases::values::Values;
-use std::io;
-
-/// Runs the cases of a file as [`run_file`] does.
-///
-/// # Errors
-///
-/// Those of [`run_file`].
-pub fn run_value_file(rt: &HostRuntime, name: &str) -> io::Result<bool> {
-    run_file::<Values>(rt, name)
-}
+pub(crate) use values::Values;

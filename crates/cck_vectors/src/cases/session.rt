@@ -1,10 +1,10 @@
 //! The lines of a vector file, in their order.
-use crate::case_error::CaseError;
-use crate::made::MadeBytes;
-use crate::report::Report;
-use crate::subject::{CaseLine, Subject};
-use crate::text::bytes_of;
-use crate::value::write_error;
+use crate::cases::case_error::CaseError;
+use crate::cases::made::MadeBytes;
+use crate::cases::report::Report;
+use crate::cases::subject::{CaseLine, Subject};
+use crate::cases::text::bytes_of;
+use crate::cases::value::write_error;
 use std::alloc::Global;
 
 // The result of a call, and the lines of the expected one so far.

@@ -5,7 +5,7 @@ use std::alloc::{AllocError, AllocFailed};
 
 /// Why a call returned no value.
 #[derive(Debug, Clone, Copy)]
-pub enum CaseError {
+pub(crate) enum CaseError {
     /// An error of a call on bytes, paths, digests or keys.
     Util(UtilError),
     /// An error of a call on entries.
@@ -20,12 +20,12 @@ pub enum CaseError {
 
 impl CaseError {
     /// Returns whether it is no result of the call.
-    pub fn stops(&self) -> bool {
+    pub(crate) fn stops(&self) -> bool {
         self.is_memory() || matches!(self, CaseError::Line)
     }
 
     /// Returns whether it is lack of memory, which stops the run.
-    pub fn is_memory(&self) -> bool {
+    pub(crate) fn is_memory(&self) -> bool {
         matches!(
             self,
             CaseError::Util(UtilError::Memory)

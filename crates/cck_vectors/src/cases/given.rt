@@ -1,7 +1,7 @@
 //! What lines give to calls on bytes, arguments and keys.
-use crate::case_error::CaseError;
-use crate::table::find;
-use crate::text::{bytes_of, variables_of, words_of};
+use crate::cases::case_error::CaseError;
+use crate::cases::table::find;
+use crate::cases::text::{bytes_of, variables_of, words_of};
 use cck_util::Language;
 use std::alloc::Global;
 
@@ -33,29 +33,29 @@ const WORDS: [(&str, Word); 10] = [
 ];
 
 /// What lines give to calls on bytes, arguments and keys.
-pub struct Given {
+pub(crate) struct Given {
     /// The allocator of all that is given.
-    pub alloc: Global,
+    pub(crate) alloc: Global,
     /// `basedirs LIST`: the base directories. None at first.
-    pub basedirs: Vec<Vec<u8>>,
+    pub(crate) basedirs: Vec<Vec<u8>>,
     /// `arguments LIST`: the arguments of a compiler. None at first.
-    pub arguments: Vec<Vec<u8>>,
+    pub(crate) arguments: Vec<Vec<u8>>,
     /// `variables NAME=VALUE ..`: the variables of the environment. None at first.
-    pub variables: Vec<(Vec<u8>, Vec<u8>)>,
+    pub(crate) variables: Vec<(Vec<u8>, Vec<u8>)>,
     /// `extra_hashes DIGEST ..`: the hex digests of extra files, unchanged. None at first.
-    pub extra_hashes: Vec<String>,
+    pub(crate) extra_hashes: Vec<String>,
     /// `compiler DIGEST`: the hex digest of the compiler, unchanged. `abcd` at first.
-    pub compiler: Option<String>,
+    pub(crate) compiler: Option<String>,
     /// `language NAME`: the language of an input. C at first.
-    pub language: Language,
+    pub(crate) language: Language,
     /// `plusplus`: whether the compiler reads its input as C++. It doesn't at first.
-    pub plusplus: bool,
+    pub(crate) plusplus: bool,
     /// `multiarch`: whether there are several architectures. There aren't at first.
-    pub multiarch: bool,
+    pub(crate) multiarch: bool,
     /// `assembler DIGEST`: the hex digest of the assembler, unchanged. None at first.
-    pub assembler: Option<String>,
+    pub(crate) assembler: Option<String>,
     /// `base TEXT`: the first of two texts or paths that a call takes. Empty at first.
-    pub base: Vec<u8>,
+    pub(crate) base: Vec<u8>,
 }
 
 impl Drop for Given {
@@ -88,7 +88,7 @@ fn set_text(alloc: Global, place: &mut Option<String>, text: &str) -> Result<(),
 
 impl Given {
     /// Returns the state in which nothing is given.
-    pub fn new(alloc: Global) -> Given {
+    pub(crate) fn new(alloc: Global) -> Given {
         Given {
             alloc,
             basedirs: Vec::new(alloc),
@@ -105,7 +105,7 @@ impl Given {
     }
 
     /// Returns the hex digest of the compiler.
-    pub fn compiler(&self) -> &str {
+    pub(crate) fn compiler(&self) -> &str {
         match &self.compiler {
             Some(text) => text.as_str(),
             None => "abcd",
@@ -113,7 +113,7 @@ impl Given {
     }
 
     /// Returns the hex digest of the assembler, if one is given.
-    pub fn assembler(&self) -> Option<&str> {
+    pub(crate) fn assembler(&self) -> Option<&str> {
         match &self.assembler {
             Some(text) => Some(text.as_str()),
             None => None,
@@ -121,7 +121,7 @@ impl Given {
     }
 
     /// Applies a line, and returns whether its word is known here.
-    pub fn give(&mut self, name: &str, rest: &str) -> Result<bool, CaseError> {
+    pub(crate) fn give(&mut self, name: &str, rest: &str) -> Result<bool, CaseError> {
         let Some(word) = find(&WORDS, name) else {
             return Ok(false);
         };

@@ -1,7 +1,7 @@
 //! What readers give, and readers that fail.
+use crate::cases::{CaseError, FailReader, Given, Value};
 use crate::value_cases::finder::macros;
 use crate::value_cases::streams::Streams;
-use crate::{CaseError, FailReader, Given, Value};
 use cck_util::{Digest, Sha256State, UtilError, read_all, read_to_end};
 use std::alloc::Global;
 

@@ -6,16 +6,16 @@ use std::io::{Read, Write};
 /// Which calls fail: the first `passing` calls pass, the next `failing` calls fail, and all others
 /// pass.
 #[derive(Debug, Clone, Copy)]
-pub struct Failures {
+pub(crate) struct Failures {
     /// How many calls pass before the first one that fails.
-    pub passing: u64,
+    pub(crate) passing: u64,
     /// How many calls fail.
-    pub failing: u64,
+    pub(crate) failing: u64,
 }
 
 impl Failures {
     /// All calls pass.
-    pub fn none() -> Failures {
+    pub(crate) fn none() -> Failures {
         Failures {
             passing: 0,
             failing: 0,
@@ -23,7 +23,7 @@ impl Failures {
     }
 
     /// The first `passing` calls pass, and all later ones fail.
-    pub fn after(passing: u64) -> Failures {
+    pub(crate) fn after(passing: u64) -> Failures {
         Failures {
             passing,
             failing: u64::MAX,
@@ -46,15 +46,15 @@ impl Failures {
 
 /// Reads its bytes `step` at a time. The reads that `reads` names fail.
 #[derive(Drop)]
-pub struct FailReader<'a> {
+pub(crate) struct FailReader<'a> {
     /// The bytes that are left.
-    pub bytes: &'a [u8],
+    pub(crate) bytes: &'a [u8],
     /// How many bytes one read returns at most.
-    pub step: usize,
+    pub(crate) step: usize,
     /// Which reads fail.
-    pub reads: Failures,
+    pub(crate) reads: Failures,
     /// The kind of the error.
-    pub kind: io::ErrorKind,
+    pub(crate) kind: io::ErrorKind,
 }
 
 impl Read for FailReader<'_> {
@@ -73,23 +73,23 @@ impl Read for FailReader<'_> {
 /// Keeps what is written, `step` bytes at a time. The writes and flushes that `writes` and
 /// `flushes` name fail.
 #[derive(Drop)]
-pub struct FailWriter {
+pub(crate) struct FailWriter {
     /// What was written.
-    pub written: Vec<u8>,
+    pub(crate) written: Vec<u8>,
     /// How many bytes one write takes at most.
-    pub step: usize,
+    pub(crate) step: usize,
     /// Which writes fail.
-    pub writes: Failures,
+    pub(crate) writes: Failures,
     /// Which flushes fail.
-    pub flushes: Failures,
+    pub(crate) flushes: Failures,
     /// Whether nothing was written after the last flush.
-    pub is_flushed: bool,
+    pub(crate) is_flushed: bool,
 }
 
 impl FailWriter {
     /// A writer to which nothing was written. A write takes all that it is given. The first
     /// `passing` writes pass, and all later ones fail.
-    pub fn new(alloc: Global, passing: u64) -> FailWriter {
+    pub(crate) fn new(alloc: Global, passing: u64) -> FailWriter {
         FailWriter {
             written: Vec::new(alloc),
             step: usize::MAX,

@@ -1,7 +1,6 @@
 //! Prefixes, escapes, lengths, durations and variables.
-use crate::text::parts_of;
+use crate::cases::{CaseError, CaseLine, Given, Value, number, parts_of};
 use crate::value_cases::streams::Streams;
-use crate::{CaseError, CaseLine, Given, Value, number};
 use cck_util::{
     OsStrExt, ascii_unescape_default, first_value, fmt_duration_as_secs, write_length_prefixed,
 };
