@@ -20,8 +20,8 @@ use crate::unpack::{Taken, unpack};
 use crate::why::print_why;
 use anyhow::{Context, Result, bail};
 use cck_cache_arguments::{
-    Action, Compilation, CompilerCall, Look, Outputs, Packed, Request, Server, Source, StoreAction,
-    Task, task_of,
+    Action, Compilation, CompilerCall, Explanation, Look, Outputs, Packed, Request, Server, Source,
+    StoreAction, Task, task_of,
 };
 use cck_cache_files::{Kind, StoreDirectory, entry_name};
 use cck_cache_options::{CLANG, Call, GCC, NATIVE, Row, rows_of};
@@ -30,8 +30,6 @@ use cck_cache_store::{
     prune_store, verify_store,
 };
 use cck_path::Timestamp;
-use clap::Error;
-use clap::error::ErrorKind;
 use std::alloc::{AllocError, Global};
 use std::io::{Read, Write};
 use std::rt::Files;
@@ -565,16 +563,14 @@ fn run_task<R: Files + AllocGlobal + Clone + Drop, S: Peer>(
     }
 }
 
-// What clap says of the words. The only error is lack of memory.
-fn explain(error: &Error, printed: &mut Printed) -> Result<u8> {
-    if error.kind() == ErrorKind::OutOfMemory {
-        bail!("out of memory");
-    }
-    if error.use_stderr() {
-        write!(printed.messages, "{error}")?;
+// Prints why the words are wrong, the help, or the version. The only error is lack of memory.
+fn explain(explanation: &Explanation, printed: &mut Printed) -> Result<u8> {
+    let text = explanation.text.as_bytes();
+    if explanation.is_error {
+        printed.messages.extend_from_slice(text)?;
         Ok(USAGE)
     } else {
-        write!(printed.answer, "{error}")?;
+        printed.answer.extend_from_slice(text)?;
         Ok(DONE)
     }
 }
@@ -663,9 +659,9 @@ pub fn run<R: Files + AllocGlobal + Clone + Drop, I: Read, W: Write, E: Write>(
         messages: Vec::new(alloc),
         place: None,
     };
-    let ended = match task_of(alloc, words) {
+    let ended = match task_of(alloc, words)? {
         Ok(task) => run_with_peer(rt, environment, &task, reader, writer, &mut printed),
-        Err(error) => explain(&error, &mut printed),
+        Err(explanation) => explain(&explanation, &mut printed),
     };
     errors.write_all(&printed.messages).context("the messages")?;
     match &printed.place {

@@ -12,6 +12,6 @@ mod task;
 pub use request::{CompilerCall, Programs, Request};
 pub use stamp::stamp_of;
 pub use task::{
-    Action, Compilation, Look, Made, Outputs, Packed, Seal, Server, Source, StoreAction, Task,
-    task_of,
+    Action, Compilation, Explanation, Look, Made, Outputs, Packed, Seal, Server, Source,
+    StoreAction, Task, task_of,
 };

@@ -214,6 +214,15 @@ pub enum Task<'a> {
     },
 }
 
+/// What is printed in place of what words ask for.
+#[derive(Drop)]
+pub struct Explanation {
+    /// The text: what is wrong with the words, the help, or the version.
+    pub text: String,
+    /// Whether the words are wrong, so that the text belongs on standard error.
+    pub is_error: bool,
+}
+
 // Where the parts of an object file are written, in the words of `unpack`.
 fn outputs_of<'a>(matches: &ArgMatches<'a>) -> Option<Outputs<'a>>
     ensures { MatchOption result ((words : OutputWords) → IsOutputs (found_of matches.now) words → ⊥)
@@ -498,11 +507,28 @@ fn task_by<'a>(
     }
 }
 
-/// Reads what these words ask for. The first is the program's name.
+// What is printed for an error of clap, if it is not lack of memory.
+fn explained(alloc: Global, error: &Error) -> Result<Explanation, AllocError> {
+    if error.kind() == ErrorKind::OutOfMemory {
+        return Err(AllocError);
+    }
+    Ok(Explanation {
+        text: format!(in alloc; "{error}")?,
+        is_error: error.use_stderr(),
+    })
+}
+
+/// Reads what these words ask for, or returns what is printed in place of that: for wrong words, among
+/// them a stamp that is no time, for `--help` and for `--version`. The first word is the program's name.
 ///
-/// The error is clap's, with the text to be printed: for wrong words, among them a stamp that is no
-/// time, for `--help` and for `--version`, or for lack of memory.
-pub fn task_of<'a>(alloc: Global, words: &'a [String]) -> Result<Task<'a>, Error> {
+/// The error is lack of memory.
+pub fn task_of<'a>(
+    alloc: Global,
+    words: &'a [String],
+) -> Result<Result<Task<'a>, Explanation>, AllocError> {
     let mut program = program(alloc)?;
-    task_by(alloc, &mut program, words)
+    match task_by(alloc, &mut program, words) {
+        Ok(task) => Ok(Ok(task)),
+        Err(error) => Ok(Err(explained(alloc, &error)?)),
+    }
 }
