@@ -2,7 +2,7 @@
 use Rattle.std.proofs.Common.{◌≡◌, ◌∙◌, ℕ, refl, sym, ap, subst, lit<}
 use Rattle.cck_cache.specs.Input.{IsCalm, IsInput, request_input_path}
 use Rattle.cck_cache_files.specs.Snapshot.{ArePut, IsAdded, IsNodePut, StaysCalm, none_put, one_more}
-use Rattle.cck_cache_arguments.specs.declared.request.Request.{Request}
+use Rattle.cck_cache_files.specs.declared.request.Request.{Request}
 use Rattle.cck_files.specs.Calls.{Keeps}
 use Rattle.cck_files.specs.FileMap.{FileMap}
 use Rattle.cck_files.specs.FileState.{FileState, IsQuiet, fault_count, new_state, no_files}

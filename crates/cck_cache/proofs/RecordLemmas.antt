@@ -7,7 +7,7 @@ use Rattle.cck_cache_rules.specs.Base.{WordLists, word_lists}
 use Rattle.cck_cache_rules.specs.Text.{AreBases}
 use Rattle.cck_cache_rules.specs.declared.base.Words.{Words}
 use Rattle.cck_cache.proofs.InputLemmas.{calm_kept, calm_stays, without_fault}
-use Rattle.cck_cache_paths.specs.Copies.{IsCopiesVerdict}
+use Rattle.cck_cache_files.specs.TextCopies.{IsCopiesVerdict}
 use Rattle.cck_cache.specs.Input.{IsCalm, IsInput, NoFault}
 use Rattle.cck_cache.specs.Record.{AreFilesOf, AreGathered, HasPathTests, HasAskedTests, HasUnnamedTests, IsAdded, IsAsked, IsEntryOf, IsEntryVerdict, IsJudgedByReading, IsKept, IsLocalTime, IsOneDay, IsOutcome, IsOutcomeOver, IsRefusedOver, ObjectShowsBase, gathered_tests}
 use Rattle.cck_cache.specs.Request.{IsRequest, request_words}
@@ -22,7 +22,7 @@ use Rattle.cck_cache_rules.specs.PathTest.{Test, tests_of}
 use Rattle.cck_cache_rules.specs.declared.object_file.ObjectFile.{ObjectFile}
 use Rattle.cck_cache_rules.specs.declared.refusal.Refusal.{Refusal}
 use Rattle.cck_cache_files.specs.Snapshot.{ArePut, SnapshotGrows, IsNamedFile}
-use Rattle.cck_cache_arguments.specs.declared.request.Request.{Request}
+use Rattle.cck_cache_files.specs.declared.request.Request.{Request}
 use Rattle.cck_cache_arguments.specs.declared.task.Compilation.{Compilation}
 use Rattle.cck_files.specs.Calls.{Keeps, Rose}
 use Rattle.cck_files.specs.FileMap.{FileMap}

@@ -3,7 +3,7 @@ use Rattle.std.proofs.Common.{◌≡◌, ◌∙◌, List, [], ◌∷◌, ◌++�
 use Rattle.cck_hasher.specs.Keys.{extra_texts}
 use Rattle.cck_hasher.specs.declared.call.CacheControl.TheVariants.{Default}
 use Rattle.cck_hasher.specs.declared.hasher.opening.PreprocessorKey.{PreprocessorKey}
-use Rattle.cck_cache_arguments.specs.declared.request.Request.{Request}
+use Rattle.cck_cache_files.specs.declared.request.Request.{Request}
 use Rattle.cck_cache_rules.specs.Base.{WordLists}
 use Rattle.cck_cache.specs.Request.{IsKeyOver, IsRequest, keyed_arguments}
 use Rattle.cck_cache.specs.declared.environment.Environment.{Environment}

@@ -9,8 +9,8 @@ use Rattle.cck_cache_options.specs.Definition.{is_definition, macro_option}
 use Rattle.cck_cache_options.specs.declared.call.Call.{Call}
 use Rattle.cck_cache_options.specs.declared.call.Keyed.{Keyed}
 use Rattle.cck_cache_options.specs.declared.table.Class.{Class}
-use Rattle.cck_cache_arguments.specs.declared.request.CompilerCall.{CompilerCall}
-use Rattle.cck_cache_arguments.specs.declared.request.Request.{Request}
+use Rattle.cck_cache_arguments.specs.declared.compiler_call.CompilerCall.{CompilerCall}
+use Rattle.cck_cache_files.specs.declared.request.Request.{Request}
 use Rattle.cck_path.specs.Bytes.{Bytes, lists_of}
 
 -- the path of the object is the target of the rule in the dependency file of the compiler, where no option says another one

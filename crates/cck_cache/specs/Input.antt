@@ -1,7 +1,7 @@
 -- the input of a request, in a snapshot
 use Rattle.std.specs.Prelude.{◌≡◌}
 use Rattle.cck_cache_files.specs.Snapshot.{IsNodePut}
-use Rattle.cck_cache_arguments.specs.declared.request.Request.{Request}
+use Rattle.cck_cache_files.specs.declared.request.Request.{Request}
 use Rattle.cck_files.specs.Calls.{Rose}
 use Rattle.cck_files.specs.FileMap.{FileMap}
 use Rattle.cck_files.specs.FileState.{FileState, IsQuiet, fault_count, no_files}

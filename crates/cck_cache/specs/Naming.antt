@@ -5,7 +5,7 @@ use Rattle.cck_cache_rules.specs.Base.{BaseOf}
 use Rattle.cck_cache_rules.specs.PathTest.{Test}
 use Rattle.cck_cache.specs.Request.{request_words}
 use Rattle.cck_cache_rules.specs.ObjectName.{object_name}
-use Rattle.cck_cache_arguments.specs.declared.request.Request.{Request}
+use Rattle.cck_cache_files.specs.declared.request.Request.{Request}
 use Rattle.cck_entry.specs.Entry.{Entry, EntryText}
 use Rattle.cck_include.specs.Include.{Include}
 use Rattle.cck_path.specs.Bytes.{Bytes}

@@ -4,13 +4,13 @@ use Rattle.std.specs.Option.{option_map}
 use Rattle.std.specs.declared.alloc.Global.{Global}
 use Rattle.cck_cache_rules.specs.Shown.{ShowsBase}
 use Rattle.cck_cache_rules.specs.Text.{AreBases}
-use Rattle.cck_cache_paths.specs.Absence.{AreTestsOf, IsRefusedByPath}
-use Rattle.cck_cache_paths.specs.Copies.{IsCopiesVerdict}
+use Rattle.cck_cache_files.specs.Absence.{AreTestsOf, IsRefusedByPath}
+use Rattle.cck_cache_files.specs.TextCopies.{IsCopiesVerdict}
 use Rattle.cck_cache.specs.Input.{IsCalm, IsInput, NoFault}
 use Rattle.cck_cache.specs.Naming.{IsNameIn}
-use Rattle.cck_cache_paths.specs.Tested.{AreAskedTests, IsRefusedBySource}
+use Rattle.cck_cache_files.specs.Tested.{AreAskedTests, IsRefusedBySource}
 use Rattle.cck_cache.specs.Request.{IsKeyOver, IsRequest, key_over, request_words}
-use Rattle.cck_cache_paths.specs.Unnamed.{AreUnnamedTests, IsRefusedByUnnamed}
+use Rattle.cck_cache_files.specs.Unnamed.{AreUnnamedTests, IsRefusedByUnnamed}
 use Rattle.cck_cache.specs.declared.environment.Environment.{Environment}
 use Rattle.cck_cache.specs.declared.record.Added.{Added}
 use Rattle.cck_cache.specs.declared.record.EntryVerdict.{EntryVerdict}
@@ -33,7 +33,7 @@ use Rattle.cck_cache_files.specs.Snapshot.{ArePut, IsNamedFile, IsPart}
 use Rattle.cck_cache_rules.specs.Refusal.{IsRefusal}
 use Rattle.cck_cache_rules.specs.declared.refusal.Refusal.{Refusal}
 use Rattle.cck_cache_rules.specs.declared.refusal.Refusal.TheVariants.{AssemblerInclude, OtherFile, NamedFile, BaseDirectory}
-use Rattle.cck_cache_arguments.specs.declared.request.Request.{Request}
+use Rattle.cck_cache_files.specs.declared.request.Request.{Request}
 use Rattle.cck_cache_arguments.specs.declared.task.Compilation.{Compilation}
 use Rattle.cck_cache_arguments.specs.declared.task.Made.{Made}
 use Rattle.cck_hasher.specs.declared.hasher.opening.PreprocessorKey.{PreprocessorKey}

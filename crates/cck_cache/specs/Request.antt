@@ -11,7 +11,7 @@ use Rattle.cck_hasher.specs.declared.hasher.opening.PreprocessorKey.{Preprocesso
 use Rattle.cck_cache_rules.specs.Base.{BaseOf, WordLists}
 use Rattle.cck_cache.specs.Input.{IsInput}
 use Rattle.cck_cache.specs.declared.environment.Environment.{Environment}
-use Rattle.cck_cache_arguments.specs.declared.request.Request.{Request}
+use Rattle.cck_cache_files.specs.declared.request.Request.{Request}
 use Rattle.cck_cache_options.specs.Call.{is_assembler, is_cplusplus}
 use Rattle.cck_cache_files.specs.Compiler.{IsContentsDigest, IsStatusDigest, is_hex_digest}
 use Rattle.cck_compiler.specs.Arguments.{Arguments, only_input}

@@ -3,8 +3,7 @@ ghost use Rattle.std.specs.Prelude.{◌≡◌, IfOk, IsOkUnless};
 ghost use Rattle.cck_cache.specs.Input.{IsCalm, IsInput, request_input_path};
 
 use anyhow::Result;
-use cck_cache_arguments::Request;
-use cck_cache_files::add_file;
+use cck_cache_files::{Request, add_file};
 use cck_digest::UtilError;
 use cck_files::MapFiles;
 use cck_path::join_path;

@@ -8,7 +8,7 @@ ghost use Rattle.cck_include.specs.Include.{Include, include_lent};
 
 use crate::request::base_words;
 use anyhow::{Result, bail};
-use cck_cache_arguments::Request;
+use cck_cache_files::Request;
 use cck_cache_rules::{PathTest, base_of, object_name};
 use cck_entry::{EntryView, IncludeRef, ResultRef};
 use cck_util::Sha256State;

@@ -8,7 +8,7 @@ use crate::call::{CallPaths, call_lines, request_of};
 use crate::environment::Environment;
 use crate::input::input_snapshot;
 use crate::judge::{Judged, Passed, judge};
-use crate::look::{Found, Missed, NO_KEY, keeps, look};
+use crate::look::{Found, Look, Missed, NO_KEY, keeps, look};
 use crate::outputs::write_outputs;
 use crate::places::are_free;
 use crate::programs::{Named, programs_of};
@@ -20,10 +20,10 @@ use crate::unpack::{Taken, unpack};
 use crate::why::print_why;
 use anyhow::{Context, Result, bail};
 use cck_cache_arguments::{
-    Action, Compilation, CompilerCall, Explanation, Look, Outputs, Packed, Request, Server, Source,
-    StoreAction, Task, task_of,
+    Action, Compilation, CompilerCall, Explanation, Outputs, Packed, Server, Source, StoreAction,
+    Task, task_of,
 };
-use cck_cache_files::{Kind, StoreDirectory, entry_name};
+use cck_cache_files::{Kind, Request, StoreDirectory, entry_name};
 use cck_cache_options::{CLANG, Call, GCC, NATIVE, Row, rows_of};
 use cck_cache_store::{
     Peer, RemotePeer, StreamPeer, address_in, clear_store, limit_shares, print_files, print_stats,

@@ -23,14 +23,11 @@ use anyhow::Result;
 use c_cache_keys::{
     PreprocessorKey, RecordedEntry, Recording, SnapshotRequest, preprocessor_key, record_text,
 };
-use cck_cache_arguments::{Compilation, Made, Request};
+use cck_cache_arguments::{Compilation, Made};
 use cck_cache_files::{
-    Kind, PathStates, StoreDirectory, TextStatuses, add_directory_statuses, add_named_files,
-    compared_paths, entry_name, text_statuses,
-};
-use cck_cache_paths::{
-    Absence, Preprocessed, Tested, Unnamed, absence_of, all_tests, may_have_copies, tested_by,
-    unnamed_by,
+    Absence, Kind, PathStates, Preprocessed, Request, StoreDirectory, Tested, TextStatuses,
+    Unnamed, absence_of, add_directory_statuses, add_named_files, all_tests, compared_paths,
+    entry_name, may_have_copies, tested_by, text_statuses, unnamed_by,
 };
 use cck_cache_rules::{
     EntryFile, Known, ObjectFile, PathStatus, PathTest, Refusal, bases_of, refusal_of, shows_base,

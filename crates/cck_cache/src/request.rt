@@ -5,7 +5,7 @@ ghost use Rattle.std.specs.Option.{option_map};
 ghost use Rattle.cck_cache_rules.specs.Base.{word_lists};
 ghost use Rattle.cck_cache.specs.Input.{IsInput};
 ghost use Rattle.cck_cache.specs.Request.{AreKeyed, HasPreprocessorKey, IsCompilerDigest, IsHasher, IsRequest, given_arguments, is_clang, is_colon, is_plusplus, kind_of, language_of, proper_program, request_words};
-ghost use Rattle.cck_cache_arguments.specs.declared.request.Request as words;
+ghost use Rattle.cck_cache_files.specs.declared.request.Request as words;
 ghost use Rattle.cck_cache_options.specs.Call.{call_of};
 ghost use Rattle.cck_compiler.specs.Seen.{arguments_of};
 ghost use Rattle.cck_path.specs.Bytes.{lists_of};
@@ -17,8 +17,7 @@ use c_cache_keys::{
     CCompilerHasher, CCompilerKind, ExternalCompiler, ParsedArguments, SnapshotRequest,
     preprocessor_key,
 };
-use cck_cache_arguments::Request;
-use cck_cache_files::{compiler_digest, shared_compiler_digest};
+use cck_cache_files::{Request, compiler_digest, shared_compiler_digest};
 use cck_cache_options::{Call, is_assembler, is_cplusplus};
 use cck_cache_rules::{Words, base_of};
 use cck_compiler::copy_lists;

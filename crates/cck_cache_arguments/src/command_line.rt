@@ -1,5 +1,6 @@
 //! The commands, their options and their words.
 use cck_digest::VERSION;
+use clap::builder::ValueParser;
 use clap::{Arg, ArgAction, Command};
 use std::alloc::{AllocError, Global};
 
@@ -340,24 +341,35 @@ impl Words {
     }
 }
 
-// An option that is given when `need` says.
-fn needed<'a>(option: Arg<'a>, need: Need<'a>) -> Arg<'a> {
-    match need {
-        Need::Always => option.required(true),
-        Need::Never => option,
-        Need::OneOf(names) => option.value_parser(names),
+impl<'a> Need<'a> {
+    // The names of which the value is one, or nothing where it may be any.
+    fn names(self) -> &'a [&'a str] {
+        match self {
+            Self::OneOf(names) => names,
+            Self::Always | Self::Never => &[],
+        }
+    }
+}
+
+// What a value may be: one of these names, or anything where there are none.
+fn parser_of<'a>(names: &'a [&'a str]) -> ValueParser<'a> {
+    if names.is_empty() {
+        ValueParser::string()
+    } else {
+        ValueParser::from(names)
     }
 }
 
 // An option that takes a value.
 fn option_of<'a>(alloc: Global, words: OptionWords<'a>) -> Arg<'a> {
     let (need, name, value, help) = words;
-    let option = Arg::new(alloc, name)
+    Arg::new(alloc, name)
         .long(name)
         .value_name(value)
         .action(ArgAction::Set)
-        .help(help);
-    needed(option, need)
+        .help(help)
+        .required(matches!(need, Need::Always))
+        .value_parser(parser_of(need.names()))
 }
 
 // A command with this argument.
@@ -381,21 +393,15 @@ fn with_options<'a>(
     command
 }
 
-// A word that is one of these, or any word where there are none.
-fn one_of<'a>(word: Arg<'a>, names: &'a [&'a str]) -> Arg<'a> {
-    if names.is_empty() {
-        word
-    } else {
-        word.value_parser(names)
-    }
-}
-
 // A command with these words, which have to be given.
 fn with_words<'a>(alloc: Global, command: Building<'a>, words: &[WordWords<'a>]) -> Building<'a> {
     let mut command = command;
     for (name, help, names) in words {
-        let word = Arg::new(alloc, *name).required(true).help(*help);
-        command = with_argument(command, one_of(word, names));
+        let word = Arg::new(alloc, *name)
+            .required(true)
+            .help(*help)
+            .value_parser(parser_of(names));
+        command = with_argument(command, word);
     }
     command
 }

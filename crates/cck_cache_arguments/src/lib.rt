@@ -5,13 +5,13 @@
 #![tactic(auto)]
 
 mod command_line;
-mod request;
+mod compiler_call;
 mod stamp;
 mod task;
 
-pub use request::{CompilerCall, Programs, Request};
+pub use compiler_call::{CompilerCall, Programs};
 pub use stamp::stamp_of;
 pub use task::{
-    Action, Compilation, Explanation, Look, Made, Outputs, Packed, Seal, Server, Source,
-    StoreAction, Task, task_of,
+    Action, Compilation, Explanation, Made, Outputs, Packed, Seal, Server, Source, StoreAction,
+    Task, task_of,
 };

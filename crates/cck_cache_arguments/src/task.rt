@@ -5,7 +5,7 @@ ghost use Rattle.clap.specs.Matches.{first_value, found_of};
 ghost use Rattle.cck_cache_arguments.specs.Task.{IsExpanded, IsMade, IsOutputs, IsPacked, IsServer, IsSince, IsSize, IsSource, MadeWords, OutputWords, PackedWords, SourceWords, made_words, output_words, packed_words, server_words, source_words};
 
 use crate::command_line::program;
-use crate::request::{CompilerCall, Request, call_of};
+use crate::compiler_call::{CompilerCall, call_of};
 use crate::stamp::stamp_of;
 use cck_path::Timestamp;
 use clap::error::ErrorKind;
@@ -48,29 +48,6 @@ pub struct Server<'a> {
     pub address: Option<&'a str>,
     /// The path of the key of signatures. With one, a value without the signature of this key is not used.
     pub verify_key: Option<&'a str>,
-}
-
-/// What a look-up is for.
-pub struct Look<'a> {
-    /// The path of the store.
-    pub store: &'a str,
-    /// The server, if one is asked.
-    pub server: Option<Server<'a>>,
-    /// Where the parts of the object file are written.
-    pub outputs: Outputs<'a>,
-    /// The request.
-    pub request: Request<'a>,
-}
-
-impl Drop for Look<'_> {
-    fn drop(self) {
-        let Look {
-            store: _,
-            server: _,
-            outputs: _,
-            request: _,
-        } = self;
-    }
 }
 
 /// What is recorded beside the compilation that was asked for.

@@ -1,3 +1,4 @@
+pub mod AbsenceLemmas
 pub mod CompilerLemmas
 pub mod CopyLemmas
 mod Examples
@@ -6,10 +7,14 @@ pub mod PathLemmas
 pub mod ProgramLemmas
 pub mod ReadOnceLemmas
 pub mod RealPathLemmas
+pub mod SearchedLemmas
 pub mod SetLemmas
 pub mod SnapshotLemmas
 pub mod SourceLemmas
+pub mod SourceTestLemmas
 pub mod StateLemmas
 pub mod StatusLemmas
 pub mod TestLemmas
+pub mod TestsAtLemmas
 pub mod TimeLemmas
+pub mod UnnamedLemmas

@@ -20,6 +20,12 @@
 //! - [`compiler_digest`] is the digest of a compiler's programs on this machine, and
 //!   [`shared_compiler_digest`] that of their contents. [`kept_programs`] says which these are, as a
 //!   store keeps it.
+//! - [`Request`] is the compilation that a call asks for, and [`Preprocessed`] what a compiler made of its
+//!   input before it compiled.
+//! - [`absence_of`] judges the directories that are searched, the paths at which a header would have been
+//!   found earlier, and the links on the way to system headers. [`tested_by`] judges the paths that the
+//!   sources test for, [`unnamed_by`] those at which gcc may have passed over a file, and
+//!   [`may_have_copies`] the copies among the files of a text.
 //! - [`laws`] states properties of the definitions.
 //!
 //! No contract says what a disk holds. The contracts here are on values alone: the paths of a
@@ -28,6 +34,7 @@
 //! contents for what was read. Beyond them these calls are proved to be safe.
 #![tactic(auto)]
 
+mod absence;
 mod compiler;
 mod copies;
 mod entry_names;
@@ -38,15 +45,23 @@ mod path_in;
 mod path_states;
 mod path_statuses;
 mod path_tests;
+mod preprocessed;
 mod programs;
 mod read_once;
 mod real_paths;
+mod request;
 mod searched;
+mod searched_paths;
 mod snapshot;
 mod sources;
 mod store_directory;
+mod tested;
+mod tests_at;
+mod text_copies;
 mod times;
+mod unnamed;
 
+pub use absence::{Absence, absence_of, all_tests};
 pub use compiler::{compiler_digest, shared_compiler_digest};
 pub use copies::{
     ComparedFiles, KnownFile, compared_paths, is_doubtful_spelling, is_in_snapshot, known_files,
@@ -60,11 +75,16 @@ pub use path_statuses::{
     TextStatuses, add_directory_statuses, add_included, text_statuses, unchanged_statuses,
 };
 pub use path_tests::first_failing;
+pub use preprocessed::Preprocessed;
 pub use programs::{KeptPrograms, SearchVariables, kept_programs};
 pub use read_once::has_copies;
 pub use real_paths::{LinkTests, link_tests};
+pub use request::Request;
 pub use searched::SearchedDirectories;
 pub use snapshot::{add_file, add_named_files, is_one_file};
 pub use sources::{Asked, asked_by};
 pub use store_directory::{Kind, StoreDirectory, open_store};
+pub use tested::{Tested, tested_by};
+pub use text_copies::may_have_copies;
 pub use times::{changed, modified};
+pub use unnamed::{Unnamed, unnamed_by};

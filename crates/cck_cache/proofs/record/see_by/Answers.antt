@@ -1,6 +1,6 @@
 use Rattle.std.proofs.Common.{◌∙◌, inl, inr, true, false, refl, subst}
 use Rattle.cck_cache_rules.specs.PathTest.{tests_of}
-use Rattle.cck_cache_paths.specs.Copies.{IsCopiesVerdict}
+use Rattle.cck_cache_files.specs.TextCopies.{IsCopiesVerdict}
 use Rattle.cck_cache.specs.Record.{HasAskedTests, HasPathTests, HasUnnamedTests}
 use Rattle.cck_cache.proofs.InputLemmas.{calm_kept}
 use Rattle.cck_cache.proofs.RecordLemmas.{calm_grown, files_of, gathered_over}
