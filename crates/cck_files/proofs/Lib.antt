@@ -4,6 +4,7 @@ pub mod CallsLemmas
 mod ChildLemmas
 pub mod ChildNames
 pub mod FileLemmas
+pub mod FindLemmas
 pub mod FolderChildLemmas
 pub mod FolderSteps
 pub mod MaterialLemmas
@@ -15,3 +16,4 @@ mod PlacesLemmas
 pub mod ReachedLemmas
 pub mod ReadLemmas
 pub mod TextLemmas
+pub mod WrapperLemmas

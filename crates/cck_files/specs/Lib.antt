@@ -10,3 +10,4 @@ pub mod Folder
 pub mod FolderText
 pub mod Laws
 pub mod Node
+pub mod Wrapper

@@ -34,6 +34,7 @@
 //!   [`read_contents`] returns them; [`feed_file_of_size`] and [`read_contents_of_size`] do so
 //!   through a buffer for the size that the caller knows.
 //! - [`sorted_names`] lists the children of a directory.
+//! - [`resolve_compiler_avoiding_wrapper`] finds the compiler that a wrapper such as `ccache` wraps.
 //!
 //! Files are fed in path order: by components, and not by the bytes of the whole name. With the
 //! files `/d/a/x` and `/d/a-b`, where `/d` and `/d/a` are directories,
@@ -56,6 +57,7 @@ mod folder;
 pub mod laws;
 mod map_files;
 mod node;
+mod wrapper;
 
 pub use armed_calls::ArmedCalls;
 pub use contents::{feed_file, feed_file_of_size, read_contents, read_contents_of_size};
@@ -64,3 +66,4 @@ pub use files::Files;
 pub use folder::sorted_names;
 pub use map_files::MapFiles;
 pub use node::Node;
+pub use wrapper::resolve_compiler_avoiding_wrapper;

@@ -1,4 +1,2 @@
-pub mod FindLemmas
 pub mod MapEntries
 pub mod MaterialLemmas
-pub mod WrapperLemmas

@@ -9,4 +9,3 @@ pub mod MapLemmas
 pub mod MapStore
 pub mod Store
 pub mod Variables
-pub mod Wrapper

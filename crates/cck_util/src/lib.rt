@@ -50,7 +50,6 @@ pub mod laws;
 mod map_store;
 mod store;
 mod variables;
-mod wrapper;
 
 pub use cck_digest::{
     Digest, FileError, HASH_BUFFER_SIZE, HashState, SeenMacros, Sha256State, Sink, TimeMacroFinder,
@@ -58,7 +57,7 @@ pub use cck_digest::{
 };
 pub use cck_files::{
     DigestFiles, Files, MapFiles, Node, feed_file, feed_file_of_size, hash_all, read_contents,
-    read_contents_of_size,
+    read_contents_of_size, resolve_compiler_avoiding_wrapper,
 };
 pub use cck_path::{
     Component, Components, FileKind, Metadata, MetadataCtimeExt, OsStrExt, Timestamp,
@@ -76,4 +75,3 @@ pub use language::{Language, UnknownLanguage};
 pub use map_store::MapStore;
 pub use store::{PreprocessorStore, StoreError, one_more};
 pub use variables::{hash_request_variables, hash_variable_list, request_variable_names};
-pub use wrapper::resolve_compiler_avoiding_wrapper;

@@ -2,9 +2,9 @@ use Rattle.std.proofs.Common.{inl, refl, sym, ap, ◌∙◌}
 use Rattle.cck_files.proofs.CallsLemmas.{keeps_itself, keeps_all}
 use Rattle.cck_files.specs.FileMap.{exists_at}
 use Rattle.cck_path.specs.Path.{components}
-use Rattle.cck_util.specs.Wrapper.{is_compiler}
-use Rattle.cck_util.proofs.WrapperLemmas.{in_turn, exists_here, exists_later}
-use Rattle.cck_util.proofs.wrapper.first_compiler.Goals as goal
+use Rattle.cck_files.specs.Wrapper.{is_compiler}
+use Rattle.cck_files.proofs.WrapperLemmas.{in_turn, exists_here, exists_later}
+use Rattle.cck_files.proofs.wrapper.first_compiler.Goals as goal
 
 pub loop-part-init : goal.loop-part-init
 loop-part-init g c = record { kept = keeps_itself c.args.files.now; left = inl refl }

@@ -1,7 +1,7 @@
 use Rattle.std.proofs.Common.{◌∙◌, sym, ap}
 use Rattle.std.specs.Str.{str_eq_ignore_ascii_case}
-use Rattle.cck_util.proofs.WrapperLemmas.{too_short}
-use Rattle.cck_util.proofs.wrapper.begins_with.Goals as goal
+use Rattle.cck_files.proofs.WrapperLemmas.{too_short}
+use Rattle.cck_files.proofs.wrapper.begins_with.Goals as goal
 
 pub returns-in-Some : goal.returns-in-Some
 returns-in-Some c = c.is_same_name.ensures ∙ ap (λ s. str_eq_ignore_ascii_case s c.args.beginning.now) c.in-Some.ensures.cases.1

@@ -15,8 +15,8 @@ use Rattle.cck_path.specs.Names.{file_name_of}
 use Rattle.cck_path.specs.Path.{Path, components, has_root}
 use Rattle.cck_path.specs.Text.{join_path}
 use Rattle.cck_path.specs.Variables.{Variable, first_value}
-use Rattle.cck_util.proofs.FindLemmas.{found_here, found_later}
-use Rattle.cck_util.specs.Wrapper.{begins_with, candidates, found_compiler, is_compiler, is_settled, kept_parts, leads_if, leads_to_wrapper, places}
+use Rattle.cck_files.proofs.FindLemmas.{found_here, found_later}
+use Rattle.cck_files.specs.Wrapper.{begins_with, candidates, found_compiler, is_compiler, is_settled, kept_parts, leads_if, leads_to_wrapper, places}
 
 -- a name that is too short
 pub too_short : (name beginning : List ℕ) → length name < length beginning → begins_with name beginning ≡ false

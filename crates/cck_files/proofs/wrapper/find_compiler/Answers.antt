@@ -3,9 +3,9 @@ use Rattle.cck_files.specs.FileMap.{exists_at}
 use Rattle.cck_path.specs.Bytes.{variables_of}
 use Rattle.cck_path.specs.Path.{components}
 use Rattle.cck_path.specs.Text.{join_path}
-use Rattle.cck_util.proofs.WrapperLemmas.{in_turn, nothing_found, no_name, no_path, candidates_by, first_found, if_ok}
+use Rattle.cck_files.proofs.WrapperLemmas.{in_turn, nothing_found, no_name, no_path, candidates_by, first_found, if_ok}
 use Rattle.cck_files.proofs.CallsLemmas.{keeps_all}
-use Rattle.cck_util.proofs.wrapper.find_compiler.Goals as goal
+use Rattle.cck_files.proofs.wrapper.find_compiler.Goals as goal
 
 pub returns-then-branch-clause-outcome : goal.returns-then-branch-clause-outcome
 returns-then-branch-clause-outcome g c = elim c.in_ok-is_settled.ensures.outcome [

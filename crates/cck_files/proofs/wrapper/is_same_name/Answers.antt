@@ -1,8 +1,8 @@
 use Rattle.std.proofs.Common.{map}
 use Rattle.std.specs.Char.{to_ascii_lowercase}
 use Rattle.std.proofs.lemmas.Slice.Eq.{bytes_eq-Decides}
-use Rattle.cck_util.proofs.WrapperLemmas.{same_test}
-use Rattle.cck_util.proofs.wrapper.is_same_name.Goals as goal
+use Rattle.cck_files.proofs.WrapperLemmas.{same_test}
+use Rattle.cck_files.proofs.wrapper.is_same_name.Goals as goal
 
 pub returns : goal.returns
 returns c = same_test c.eq_ignore_ascii_case.result _ _ c.eq_ignore_ascii_case.ensures.test

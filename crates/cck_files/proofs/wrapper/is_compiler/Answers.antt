@@ -1,8 +1,8 @@
 use Rattle.std.proofs.Common.{inl, inr}
 use Rattle.cck_path.specs.Path.{components}
-use Rattle.cck_util.proofs.WrapperLemmas.{in_turn, nothing_exists, present}
+use Rattle.cck_files.proofs.WrapperLemmas.{in_turn, nothing_exists, present}
 use Rattle.cck_files.proofs.CallsLemmas.{keeps_all}
-use Rattle.cck_util.proofs.wrapper.is_compiler.Goals as goal
+use Rattle.cck_files.proofs.wrapper.is_compiler.Goals as goal
 
 pub returns-then-not-exists-clause-outcome : goal.returns-then-not-exists-clause-outcome
 returns-then-not-exists-clause-outcome g c = let F = g.F.Files in elim c.if-not-exists.ensures.outcome [

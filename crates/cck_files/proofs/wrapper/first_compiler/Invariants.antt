@@ -3,8 +3,8 @@ use Rattle.std.specs.List.{find}
 use Rattle.cck_files.specs.Calls.{Keeps, Rose}
 use Rattle.cck_path.specs.Path.{components}
 use Rattle.cck_path.specs.Text.{join_path}
-use Rattle.cck_util.specs.Wrapper.{is_compiler}
-use Rattle.cck_util.proofs.wrapper.first_compiler.Given as goal
+use Rattle.cck_files.specs.Wrapper.{is_compiler}
+use Rattle.cck_files.proofs.wrapper.first_compiler.Given as goal
 
 -- the result depends on the remaining parts alone
 abbrev pub invariant-loop-part : goal.invariant-loop-part

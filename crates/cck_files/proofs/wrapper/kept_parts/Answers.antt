@@ -1,8 +1,8 @@
 use Rattle.std.proofs.Common.{rules, tests, nat_eq, not}
 use Rattle.std.proofs.lemmas.Iterator.Consumers.{YieldsList-from_filter, YieldsList-at, map_from_collect}
 use Rattle.std.proofs.lemmas.Iterator.Splits.{YieldsList-from_slice_split}
-use Rattle.cck_util.specs.Wrapper.{kept_parts, has_wrapper_component}
-use Rattle.cck_util.proofs.wrapper.kept_parts.Goals as goal
+use Rattle.cck_files.specs.Wrapper.{kept_parts, has_wrapper_component}
+use Rattle.cck_files.proofs.wrapper.kept_parts.Goals as goal
 
 pub returns : goal.returns
 unfolding kept_parts

@@ -3,8 +3,8 @@ use Rattle.std.proofs.lemmas.Iterator.Consumers.{YieldsList-from_first}
 use Rattle.std.proofs.lemmas.Iterator.Search.{any_from_yields_List}
 use Rattle.cck_path.specs.Components.{component_of, components_left}
 use Rattle.cck_path.specs.Path.{components}
-use Rattle.cck_util.specs.Wrapper.{has_wrapper_component, is_wrapper_component}
-use Rattle.cck_util.proofs.wrapper.has_wrapper_component.Goals as goal
+use Rattle.cck_files.specs.Wrapper.{has_wrapper_component, is_wrapper_component}
+use Rattle.cck_files.proofs.wrapper.has_wrapper_component.Goals as goal
 
 pub returns : goal.returns
 unfolding has_wrapper_component

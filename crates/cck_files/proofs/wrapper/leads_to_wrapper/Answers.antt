@@ -2,9 +2,9 @@ use Rattle.std.proofs.Common.{◌∙◌, sym, ap, inl}
 use Rattle.cck_files.specs.Calls.{Rose}
 use Rattle.cck_files.specs.FileMap.{canonical_at}
 use Rattle.cck_path.specs.Path.{components}
-use Rattle.cck_util.specs.Wrapper.{is_wrapper, leads_if, leads_to_wrapper}
-use Rattle.cck_util.proofs.WrapperLemmas.{not_canonical}
-use Rattle.cck_util.proofs.wrapper.leads_to_wrapper.Goals as goal
+use Rattle.cck_files.specs.Wrapper.{is_wrapper, leads_if, leads_to_wrapper}
+use Rattle.cck_files.proofs.WrapperLemmas.{not_canonical}
+use Rattle.cck_files.proofs.wrapper.leads_to_wrapper.Goals as goal
 
 pub returns-in-Ok-clause-outcome : goal.returns-in-Ok-clause-outcome
 unfolding leads_to_wrapper

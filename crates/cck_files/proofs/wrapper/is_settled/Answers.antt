@@ -1,7 +1,7 @@
 use Rattle.std.proofs.Common.{inl, inr, sym}
 use Rattle.cck_path.specs.Path.{components}
-use Rattle.cck_util.proofs.WrapperLemmas.{no_root, at_root}
-use Rattle.cck_util.proofs.wrapper.is_settled.Goals as goal
+use Rattle.cck_files.proofs.WrapperLemmas.{no_root, at_root}
+use Rattle.cck_files.proofs.wrapper.is_settled.Goals as goal
 
 pub returns-then-not-is_absolute-clause-outcome : goal.returns-then-not-is_absolute-clause-outcome
 returns-then-not-is_absolute-clause-outcome g c =

@@ -1,8 +1,8 @@
 use Rattle.std.proofs.Common.{inr}
 use Rattle.cck_path.specs.Bytes.{variables_of}
-use Rattle.cck_util.specs.Wrapper.{candidates}
-use Rattle.cck_util.proofs.WrapperLemmas.{contains_later}
-use Rattle.cck_util.proofs.wrapper.resolve_compiler_avoiding_wrapper.Goals as goal
+use Rattle.cck_files.specs.Wrapper.{candidates}
+use Rattle.cck_files.proofs.WrapperLemmas.{contains_later}
+use Rattle.cck_files.proofs.wrapper.resolve_compiler_avoiding_wrapper.Goals as goal
 
 pub returns-in-Some-clause-place : goal.returns-in-Some-clause-place
 returns-in-Some-clause-place g c =
