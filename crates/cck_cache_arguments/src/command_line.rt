@@ -4,10 +4,6 @@ use clap::builder::ValueParser;
 use clap::{Arg, ArgAction, Command};
 use std::alloc::{AllocError, Global};
 
-// A command that is put together, or the error if memory was lacking on the way. As each step takes and
-// returns one, none has to give a command back on an error.
-type Building<'a> = Result<Command<'a>, AllocError>;
-
 // When an option is given.
 #[derive(Clone, Copy)]
 enum Need<'a> {
@@ -372,42 +368,41 @@ fn option_of<'a>(alloc: Global, words: OptionWords<'a>) -> Arg<'a> {
         .value_parser(parser_of(need.names()))
 }
 
-// A command with this argument.
-fn with_argument<'a>(command: Building<'a>, argument: Arg<'a>) -> Building<'a> {
-    match command {
-        Ok(command) => command.arg(argument),
-        Err(error) => Err(error),
-    }
-}
-
-// A command with these options, which take a value each.
-fn with_options<'a>(
+// Adds these options, which take a value each.
+fn push_options<'a>(
     alloc: Global,
-    command: Building<'a>,
+    arguments: &mut Vec<Arg<'a>>,
     options: &[OptionWords<'a>],
-) -> Building<'a> {
-    let mut command = command;
+) -> Result<(), AllocError> {
     for option in options {
-        command = with_argument(command, option_of(alloc, *option));
+        arguments.push(option_of(alloc, *option))?;
     }
-    command
+    Ok(())
 }
 
-// A command with these words, which have to be given.
-fn with_words<'a>(alloc: Global, command: Building<'a>, words: &[WordWords<'a>]) -> Building<'a> {
-    let mut command = command;
-    for (name, help, names) in words {
-        let word = Arg::new(alloc, *name)
-            .required(true)
-            .help(*help)
-            .value_parser(parser_of(names));
-        command = with_argument(command, word);
+// A word that has to be given.
+fn word_of<'a>(alloc: Global, words: WordWords<'a>) -> Arg<'a> {
+    let (name, help, names) = words;
+    Arg::new(alloc, name)
+        .required(true)
+        .help(help)
+        .value_parser(parser_of(names))
+}
+
+// Adds these words, which have to be given.
+fn push_words<'a>(
+    alloc: Global,
+    arguments: &mut Vec<Arg<'a>>,
+    words: &[WordWords<'a>],
+) -> Result<(), AllocError> {
+    for word in words {
+        arguments.push(word_of(alloc, *word))?;
     }
-    command
+    Ok(())
 }
 
 // The compiler's arguments.
-fn arguments<'a>(alloc: Global) -> Arg<'a> {
+fn compiler_arguments<'a>(alloc: Global) -> Arg<'a> {
     Arg::new(alloc, "ARG")
         .num_args(0..)
         .trailing_var_arg(true)
@@ -415,53 +410,52 @@ fn arguments<'a>(alloc: Global) -> Arg<'a> {
         .help("The compiler's arguments")
 }
 
-// A command with the words of a compiler's call after its own.
-fn with_call<'a>(alloc: Global, command: Building<'a>) -> Building<'a> {
-    let command = with_options(alloc, command, &CALL);
-    with_argument(command, arguments(alloc))
+// Adds the words of a compiler's call, which come after a command's own.
+fn push_call<'a>(alloc: Global, arguments: &mut Vec<Arg<'a>>) -> Result<(), AllocError> {
+    push_options(alloc, arguments, &CALL)?;
+    Ok(arguments.push(compiler_arguments(alloc))?)
+}
+
+// The arguments of a command.
+fn arguments_of<'a>(
+    alloc: Global,
+    options: Options,
+    words: Words,
+    has_call: bool,
+) -> Result<Vec<Arg<'a>>, AllocError> {
+    let mut arguments = Vec::new(alloc);
+    push_options(alloc, &mut arguments, options.listed())?;
+    push_words(alloc, &mut arguments, words.listed())?;
+    if has_call {
+        push_call(alloc, &mut arguments)?;
+    }
+    Ok(arguments)
 }
 
 // The command of these words.
-fn command_of<'a>(alloc: Global, words: CommandWords<'a>) -> Building<'a> {
+fn command_of<'a>(alloc: Global, words: CommandWords<'a>) -> Result<Command<'a>, AllocError> {
     let (name, about, options, words, has_call) = words;
-    let command = Ok(Command::new(alloc, name).about(about));
-    let command = with_options(alloc, command, options.listed());
-    let command = with_words(alloc, command, words.listed());
-    if has_call {
-        with_call(alloc, command)
-    } else {
-        command
-    }
+    let arguments = arguments_of(alloc, options, words, has_call)?;
+    Command::new(alloc, name).about(about).args(arguments)
 }
 
-// A program with this command.
-fn with_ready<'a>(program: Building<'a>, command: Command<'a>) -> Building<'a> {
-    match program {
-        Ok(program) => program.subcommand(command),
-        Err(error) => Err(error),
+// All commands.
+fn commands<'a>(alloc: Global) -> Result<Vec<Command<'a>>, AllocError> {
+    let mut commands = Vec::new(alloc);
+    for words in &COMMANDS {
+        commands.push(command_of(alloc, *words)?)?;
     }
-}
-
-// A program with this command, if there was memory for it.
-fn with_command<'a>(program: Building<'a>, command: Building<'a>) -> Building<'a> {
-    match command {
-        Ok(command) => with_ready(program, command),
-        Err(error) => Err(error),
-    }
+    Ok(commands)
 }
 
 /// The whole command line.
 ///
 /// The error is lack of memory.
 pub(crate) fn program<'a>(alloc: Global) -> Result<Command<'a>, AllocError> {
-    let mut program = Ok(
-        Command::new(alloc, "cck_cache")
-            .version(VERSION)
-            .about("Keeps the objects of compilations")
-            .subcommand_required(true),
-    );
-    for words in &COMMANDS {
-        program = with_command(program, command_of(alloc, *words));
-    }
-    program
+    let commands = commands(alloc)?;
+    Command::new(alloc, "cck_cache")
+        .version(VERSION)
+        .about("Keeps the objects of compilations")
+        .subcommand_required(true)
+        .subcommands(commands)
 }

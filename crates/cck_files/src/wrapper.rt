@@ -11,8 +11,8 @@ ghost use Rattle.cck_path.specs.Path.{components};
 ghost use Rattle.cck_path.specs.Text.{join_path as joined_text};
 ghost use Rattle.cck_files.specs.Wrapper.{begins_with, is_wrapper_name, is_wrapper, leads_to_wrapper, has_wrapper_component, is_wrapper_component, kept_parts, candidates, is_compiler, is_settled, found_compiler, resolved};
 
+use crate::files::Files;
 use cck_digest::{FileError, UtilError};
-use cck_files::Files;
 use cck_path::{Component, Components, file_name, first_value, is_absolute, join_path};
 use std::alloc::{AllocError, Global};
 

@@ -1,5 +1,4 @@
-//! Cases of compilers, stores, calls for keys and lists of calls; and [`examples`], calls at types of a
-//! caller's own.
+//! Cases of compilers, stores, calls for keys and lists of calls.
 //!
 //! [`Calls`] is the subject of a vector file. `docs/TESTING.md` has the grammar.
 //!
@@ -29,7 +28,6 @@ mod arguments;
 mod calls;
 mod compilers;
 mod errors;
-pub(crate) mod examples;
 mod fixed_compiler;
 mod keys;
 mod lists;

@@ -2,11 +2,10 @@
 //!
 //! The words after its name are vector files. The folder that a file is in says which module knows its
 //! calls; `docs/TESTING.md` has a table of them, and the grammar of the files.
-//! For each file the program prints each difference, and the number of results. For the word `examples`
-//! it prints the results of [`examples`].
+//! For each file the program prints each difference, and the number of results.
 //!
 //! The status is 0 if all results are the expected ones, and 1 if one differs or a line can't be
-//! read. It is 2 if a file can't be read, memory is lacking or a call of the examples fails.
+//! read. It is 2 if a file can't be read or memory is lacking.
 #![tactic(auto)]
 
 mod call_cases;
@@ -15,7 +14,7 @@ mod file_cases;
 mod script_cases;
 mod value_cases;
 
-use crate::call_cases::{Calls, examples};
+use crate::call_cases::Calls;
 use crate::cases::run_file;
 use crate::file_cases::{FileCases, WalkCases};
 use crate::script_cases::Scripts;
@@ -32,18 +31,7 @@ fn folder_of(path: &str) -> &str {
     }
 }
 
-fn print_examples(rt: &HostRuntime) -> io::Result<bool> {
-    let Some(results) = examples::results(rt.alloc()) else {
-        return Err(io::Error::from(io::ErrorKind::Other));
-    };
-    rt.print(&results)?;
-    Ok(true)
-}
-
 fn run_word(rt: &HostRuntime, name: &str) -> io::Result<bool> {
-    if name == "examples" {
-        return print_examples(rt);
-    }
     match folder_of(name) {
         "values" => run_file::<Values>(rt, name),
         "files" => run_file::<FileCases>(rt, name),
