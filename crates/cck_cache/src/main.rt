@@ -6,7 +6,7 @@
 //! printed on standard error, with status 2.
 //!
 //! Each call works on a *snapshot*: the real files that it looks at are read into memory. Keys,
-//! look-ups and recordings are calls of `cck_snapshot` over them, over the bytes of one entry and over
+//! look-ups and recordings are calls of `c_cache_keys` over them, over the bytes of one entry and over
 //! a text. What is missing from a snapshot can only make a look-up miss or a compilation be refused.
 #![tactic(auto)]
 

@@ -1,4 +1,4 @@
-"""The calls of `run_value_file` of `cck_cases`: bytes, paths, texts, times, digests, readers and keys."""
+"""The calls of `value_cases` of `cck_vectors`: bytes, paths, texts, times, digests, readers and keys."""
 from .. import digests, key, paths, strip, texts, times
 from ..cases import (
     BaseSubject,
