@@ -13,7 +13,7 @@ use std::io::{ErrorKind, Write};
 use std::rt::Files;
 
 // How a file of a store is.
-#[derive(Clone, Copy, PartialEq, Eq)]
+#[derive(Clone, Copy)]
 enum State {
     // It is that of its name.
     Sound,

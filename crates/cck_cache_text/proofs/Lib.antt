@@ -1,6 +1,5 @@
 pub mod AbsentLemmas
 pub mod CommentLemmas
-pub mod EqualityLemmas
 mod HeaderTestExamples
 pub mod HeaderTestLemmas
 mod IncludedExamples

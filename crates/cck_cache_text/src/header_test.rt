@@ -14,7 +14,7 @@ use crate::test_name::{is_judged_word, is_test_word_at, may_have_test, test_in};
 use std::alloc::{AllocError, Global};
 
 /// A test for the existence of a header whose name is written out.
-#[derive(Debug, Drop, PartialEq, Eq)]
+#[derive(Drop)]
 pub struct HeaderTest {
     /// The name, without its quotes or brackets.
     pub name: Vec<u8>,

@@ -14,7 +14,7 @@
 //!   not include. Both read a source without its splices, which [`unspliced`] returns.
 //!   [`add_tested_paths`] lists the paths at which tests look, and [`may_ask_for_file`] finds both in
 //!   an argument.
-//! - [`laws`] states what `==` means for the types.
+//! - [`laws`] states a property of the definitions.
 #![tactic(auto)]
 
 mod absent;

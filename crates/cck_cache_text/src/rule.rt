@@ -8,7 +8,7 @@ ghost use Rattle.cck_cache_text.specs.declared.rule.Piece as spec;
 use std::alloc::{AllocError, Global};
 
 /// A piece of a list of names.
-#[derive(Clone, Copy, PartialEq, Eq)]
+#[derive(Clone, Copy)]
 enum Piece {
     /// A byte by itself.
     One(u8),

@@ -8,7 +8,6 @@ ghost use Rattle.cck_cache_text.specs.SearchList.{IsSearchList, ReadsLines, Test
 use std::alloc::{AllocError, Global};
 
 /// Where a compiler looks for headers, in the form in which `gcc -v` prints it.
-#[derive(PartialEq, Eq)]
 pub struct SearchList {
     /// The directories, in the order in which they are searched: first those for `"..."` alone.
     pub directories: Vec<Vec<u8>>,
