@@ -33,7 +33,7 @@ use Rattle.cck_cache_files.specs.declared.store_directory.Kind.TheVariants as ki
 use Rattle.cck_cache_store.specs.Given.{IsGiven}
 use Rattle.cck_cache_store.specs.declared.given.Given.TheVariants as given
 use Rattle.cck_cache_files.specs.declared.request.Request.{Request}
-use Rattle.cck_cache.specs.declared.look.Look.{Look}
+use Rattle.cck_cache.specs.declared.wanted.Look.{Look}
 use Rattle.cck_cache_arguments.specs.declared.task.Outputs.{Outputs}
 use Rattle.cck_cache_arguments.specs.declared.task.Server.{Server}
 use Rattle.cck_entry.specs.Entry.{Entry, EntryText}

@@ -15,9 +15,10 @@ use crate::naming::name_of;
 use crate::outputs::has_outputs;
 use crate::request::{hasher_of, snapshot_request};
 use crate::server_key::server_key;
+use crate::wanted::Look;
 use anyhow::{Context, Result};
 use c_cache_keys::{PreprocessorKey, SnapshotRequest, look_up, preprocessor_key};
-use cck_cache_arguments::{Outputs, Server};
+use cck_cache_arguments::Outputs;
 use cck_cache_files::{
     ENTRY_FILES, Kind, Request, StoreDirectory, entry_name, first_failing, unchanged_statuses,
 };
@@ -80,29 +81,6 @@ pub enum Kept {
     Damaged,
     /// An entry.
     Entry(EntryFile),
-}
-
-/// What a look-up is for.
-pub struct Look<'a> {
-    /// The path of the store.
-    pub store: &'a str,
-    /// The server, if one is asked.
-    pub server: Option<Server<'a>>,
-    /// Where the parts of the object file are written.
-    pub outputs: Outputs<'a>,
-    /// The request.
-    pub request: Request<'a>,
-}
-
-impl Drop for Look<'_> {
-    fn drop(self) {
-        let Look {
-            store: _,
-            server: _,
-            outputs: _,
-            request: _,
-        } = self;
-    }
 }
 
 // What a look-up is for, with the preprocessor key of its request over a snapshot of the input.

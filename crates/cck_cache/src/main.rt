@@ -30,6 +30,7 @@ mod seal;
 mod server_key;
 mod store;
 mod unpack;
+mod wanted;
 mod why;
 
 use crate::environment::{

@@ -8,7 +8,7 @@ use crate::call::{CallPaths, call_lines, request_of};
 use crate::environment::Environment;
 use crate::input::input_snapshot;
 use crate::judge::{Judged, Passed, judge};
-use crate::look::{Found, Look, Missed, NO_KEY, keeps, look};
+use crate::look::{Found, Missed, NO_KEY, keeps, look};
 use crate::outputs::write_outputs;
 use crate::places::are_free;
 use crate::programs::{Named, programs_of};
@@ -17,6 +17,7 @@ use crate::request::{is_clang, is_foreign, request_key};
 use crate::seal::seal;
 use crate::store::store_in;
 use crate::unpack::{Taken, unpack};
+use crate::wanted::Look;
 use crate::why::print_why;
 use anyhow::{Context, Result, bail};
 use cck_cache_arguments::{
