@@ -36,4 +36,14 @@ mod request;
 mod shown;
 mod stores;
 
-pub(crate) use calls::Calls;
+use crate::call_cases::calls::Calls;
+use std::io;
+
+/// Runs the cases of a file as [`run_file`](crate::cases::run_file) does.
+///
+/// # Errors
+///
+/// Those of [`run_file`](crate::cases::run_file).
+pub(crate) fn run_file(rt: &HostRuntime, name: &str) -> io::Result<bool> {
+    crate::cases::run_file::<Calls>(rt, name)
+}

@@ -20,5 +20,24 @@ mod walk_cases;
 mod walks;
 mod wanted;
 
-pub(crate) use cases::FileCases;
-pub(crate) use walk_cases::WalkCases;
+use crate::file_cases::cases::FileCases;
+use crate::file_cases::walk_cases::WalkCases;
+use std::io;
+
+/// Runs the cases of a file as [`run_file`](crate::cases::run_file) does.
+///
+/// # Errors
+///
+/// Those of [`run_file`](crate::cases::run_file).
+pub(crate) fn run_file(rt: &HostRuntime, name: &str) -> io::Result<bool> {
+    crate::cases::run_file::<FileCases>(rt, name)
+}
+
+/// Runs the cases of a file as [`run_file`](crate::cases::run_file) does.
+///
+/// # Errors
+///
+/// Those of [`run_file`](crate::cases::run_file).
+pub(crate) fn run_walk_file(rt: &HostRuntime, name: &str) -> io::Result<bool> {
+    crate::cases::run_file::<WalkCases>(rt, name)
+}

@@ -14,11 +14,6 @@ mod file_cases;
 mod script_cases;
 mod value_cases;
 
-use crate::call_cases::Calls;
-use crate::cases::run_file;
-use crate::file_cases::{FileCases, WalkCases};
-use crate::script_cases::Scripts;
-use crate::value_cases::Values;
 use std::process::ExitCode;
 use std::{env, io};
 
@@ -33,11 +28,11 @@ fn folder_of(path: &str) -> &str {
 
 fn run_word(rt: &HostRuntime, name: &str) -> io::Result<bool> {
     match folder_of(name) {
-        "values" => run_file::<Values>(rt, name),
-        "files" => run_file::<FileCases>(rt, name),
-        "walks" => run_file::<WalkCases>(rt, name),
-        "calls" => run_file::<Calls>(rt, name),
-        "scripts" => run_file::<Scripts>(rt, name),
+        "values" => value_cases::run_file(rt, name),
+        "files" => file_cases::run_file(rt, name),
+        "walks" => file_cases::run_walk_file(rt, name),
+        "calls" => call_cases::run_file(rt, name),
+        "scripts" => script_cases::run_file(rt, name),
         _ => Err(io::Error::from(io::ErrorKind::NotFound)),
     }
 }

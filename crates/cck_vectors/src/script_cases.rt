@@ -44,4 +44,14 @@ mod scripts;
 mod streams;
 mod subject;
 
-pub(crate) use subject::Scripts;
+use crate::script_cases::subject::Scripts;
+use std::io;
+
+/// Runs the cases of a file as [`run_file`](crate::cases::run_file) does.
+///
+/// # Errors
+///
+/// Those of [`run_file`](crate::cases::run_file).
+pub(crate) fn run_file(rt: &HostRuntime, name: &str) -> io::Result<bool> {
+    crate::cases::run_file::<Scripts>(rt, name)
+}

@@ -22,4 +22,14 @@ mod texts;
 mod times;
 mod values;
 
-pub(crate) use values::Values;
+use crate::value_cases::values::Values;
+use std::io;
+
+/// Runs the cases of a file as [`run_file`](crate::cases::run_file) does.
+///
+/// # Errors
+///
+/// Those of [`run_file`](crate::cases::run_file).
+pub(crate) fn run_file(rt: &HostRuntime, name: &str) -> io::Result<bool> {
+    crate::cases::run_file::<Values>(rt, name)
+}
