@@ -1,6 +1,6 @@
 //! The words of the command line of `cck_cache`, read by `clap`.
 //!
-//! - [`task_of`] returns what the words ask for, a [`Task`].
+//! - [`task_of`] returns what the words ask for, a [`Task`], or an [`Explanation`] in place of that.
 //! - [`stamp_of`] reads the time that a look-up printed.
 #![tactic(auto)]
 
