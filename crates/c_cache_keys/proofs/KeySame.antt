@@ -13,8 +13,8 @@ use Rattle.cck_path.specs.Bytes.{Bytes}
 use Rattle.cck_path.specs.Path.{components}
 use Rattle.cck_path.specs.Variables.{Variable}
 use Rattle.cck_path.proofs.TestLemmas.{from_and_then, then_some}
-use Rattle.cck_entry.proofs.MaterialLemmas.{preprocessor_material_tells_parts}
-use Rattle.cck_entry.specs.PreprocessorKey.{RequestParts, preprocessor_material}
+use Rattle.cck_compiler.proofs.MaterialLemmas.{preprocessor_material_tells_parts}
+use Rattle.cck_compiler.specs.PreprocessorKey.{RequestParts, preprocessor_material}
 use Rattle.cck_strip.specs.Argument.{stripped_argument}
 use Rattle.cck_strip.specs.Text.{stripped_text}
 use Rattle.cck_util.specs.Key.{KeyParts, material}

@@ -21,7 +21,7 @@ use Rattle.cck_include.specs.Setting.{Setting}
 use Rattle.cck_path.specs.Bytes.{Bytes}
 use Rattle.cck_path.specs.Path.{Path, components}
 use Rattle.cck_util.specs.MapStore.{IsGot, State, map_store, empty_state}
-use Rattle.cck_entry.specs.PreprocessorKey.{preprocessor_material}
+use Rattle.cck_compiler.specs.PreprocessorKey.{preprocessor_material}
 use Rattle.cck_util.specs.Store.{Returned}
 use Rattle.cck_util.specs.Key.{material}
 use Rattle.cck_hasher.proofs.Elements.{all_pass, each_passes}

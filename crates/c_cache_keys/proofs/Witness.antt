@@ -32,7 +32,7 @@ use Rattle.cck_path.specs.Bytes.{Bytes}
 use Rattle.cck_path.specs.Path.{Path, components, path_cmp}
 use Rattle.cck_path.specs.Text.{join_path, path_text}
 use Rattle.cck_path.specs.TextOrder.{text_cmp}
-use Rattle.cck_entry.specs.PreprocessorKey.{RequestParts, compiler_material, preprocessor_material}
+use Rattle.cck_compiler.specs.PreprocessorKey.{RequestParts, compiler_material, preprocessor_material}
 use Rattle.cck_util.specs.MapStore.{State, map_store, empty_state}
 use Rattle.cck_strip.specs.Cuts.{stripped}
 use Rattle.cck_strip.specs.Text.{longest_prefix, text_site}

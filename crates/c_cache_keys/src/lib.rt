@@ -109,7 +109,8 @@ pub use c_compiler::CCompiler;
 pub use calls::{Call, run_calls};
 pub use cck_compiler::{
     ArtifactDescriptor, CCompilerImpl, CCompilerKind, ColorMode, CompilerArguments, KeyError,
-    ParsedArguments, PreprocessError,
+    ParsedArguments, PreprocessError, PreprocessorKeyRequest, hashed_directory,
+    preprocessor_cache_entry_hash_key,
 };
 pub use cck_entry;
 pub use cck_hasher::{CCompilerHasher, CacheControl, Conditions, HashResult, PreprocessorKey};

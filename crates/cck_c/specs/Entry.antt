@@ -1,8 +1,7 @@
 -- entries, for a caller that passes their bytes, and what they say as it is stored
 use Rattle.std.specs.Prelude.{◌≡◌, ◌≢◌, ◌≤◌, ℕ, ℤ, pos, List, ◌∷◌, length, map, take, drop, Option, Some, None}
-use Rattle.cck_include.specs.Include.{Include}
+use Rattle.cck_include.specs.Include.{Include, format_version}
 use Rattle.cck_path.specs.Timestamp.{Moment}
-use Rattle.cck_entry.specs.PreprocessorKey.{format_version}
 use Rattle.cck_digest.specs.declared.entry_error.Error.{Error}
 use Rattle.cck_digest.specs.declared.entry_error.Error.TheVariants.{Deserialization, Io, Memory, UnknownFormat}
 use Rattle.cck_entry.specs.Entry.{Entry, EntryText}

@@ -1,4 +1,6 @@
 pub mod Arguments
 pub mod Compiler
 pub mod ExtraFiles
+pub mod PreprocessorKey
+pub mod PreprocessorKeyRequest
 pub mod Seen

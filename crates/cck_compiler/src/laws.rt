@@ -1,5 +1,6 @@
 //! Laws about the definitions, each the contract of a function that does nothing.
 ghost use Rattle.std.specs.Prelude.{◌≡◌, ◌↔◌, IsTrue};
+ghost use Rattle.cck_compiler.specs.PreprocessorKey.{PreprocessorMaterialTellsParts};
 ghost use Rattle.cck_compiler.specs.Seen.{arguments_of};
 
 use crate::{ArtifactDescriptor, CCompilerKind, ColorMode, ParsedArguments};
@@ -27,4 +28,13 @@ pub fn c_compiler_kind_equality_is_exact()
 /// Two [`ColorMode`]s are equal exactly if they are the same.
 pub fn color_mode_equality_is_exact()
     ensures { (a b : ColorMode) → IsTrue (⟦<ColorMode as PartialEq>⟧.eq a b) ↔ (a ≡ b) }
+{}
+
+/// Two key materials are equal exactly if their parts are: the parts of the request that are
+/// hashed, the hex digests of the extra files, and the recorded digest of the input.
+///
+/// Each length and each count is written before its bytes or items, so different parts never have
+/// the same key material.
+pub fn preprocessor_material_tells_parts()
+    ensures { PreprocessorMaterialTellsParts }
 {}

@@ -1,4 +1,4 @@
-//! What a cache of keys asks of C compilers, and the parsed form of a command line.
+//! What a cache of keys asks of C compilers, the parsed form of a command line, and the preprocessor key.
 //!
 //! A compiler is a type that implements [`CCompilerImpl`]. It says its family and its version,
 //! parses a command line into [`ParsedArguments`], and prints preprocessed text. Contracts describe
@@ -17,6 +17,23 @@
 //! add_extra_files(alloc, &mut files, &mut parsed, &vars)?;
 //! parsed.extra_hash_files; // after the others, what `SCCACHE_EXTRAFILES` names
 //! ```
+//!
+//! # The preprocessor key
+//!
+//! The preprocessor key is the key under which a store is searched for an entry before anything is
+//! preprocessed. It is the hex digest of the *key material*:
+//!
+//! - the compiler and its arguments, and the hex digests of extra files that it reads;
+//! - the variables that change what is compiled or which files a preprocessor finds;
+//! - the path of the input, the working directory, and the input's
+//!   [recorded digest](cck_include::recorded_digest).
+//!
+//! The headers that the input includes are not known at this point. They are in the entry that the
+//! store holds under the key.
+//!
+//! - [`preprocessor_cache_entry_hash_key`] returns the key, and [`PreprocessorKeyRequest::compute`] that
+//!   of an input whose recorded digest is known.
+//! - [`FORMAT_VERSION`](cck_include::FORMAT_VERSION), the format of entries, is part of the key material.
 #![tactic(auto)]
 
 mod arguments;
@@ -25,9 +42,13 @@ mod copies;
 mod extra_files;
 pub mod laws;
 mod lists;
+mod preprocessor_key;
 
 pub use arguments::{ArtifactDescriptor, ColorMode, ParsedArguments};
 pub use cck_digest::{KeyError, PreprocessError};
 pub use compiler::{CCompilerImpl, CCompilerKind, CompilerArguments};
 pub use extra_files::add_extra_files;
 pub use lists::{copy_lists, copy_text, push_copies};
+pub use preprocessor_key::{
+    PreprocessorKeyRequest, hashed_directory, preprocessor_cache_entry_hash_key,
+};

@@ -19,12 +19,11 @@ use Rattle.std.proofs.lemmas.Option.{same_Some}
 use Rattle.std.proofs.lemmas.Bool.{and_parts, and_from}
 use Rattle.std.proofs.lemmas.Float.{T_from_true}
 use Rattle.cck_include.specs.declared.include.IncludeEntry.{IncludeEntry}
-use Rattle.cck_include.specs.Include.{Include}
+use Rattle.cck_include.specs.Include.{Include, format_version}
 use Rattle.cck_path.specs.TextOrder.{text_cmp}
 use Rattle.cck_digest.specs.declared.entry_error.Error.{Error}
 use Rattle.cck_digest.specs.declared.entry_error.Error.TheVariants.{Io, Deserialization, UnknownFormat, Memory}
 use Rattle.cck_path.proofs.TestLemmas.{true_from_T}
-use Rattle.cck_entry.specs.PreprocessorKey.{format_version}
 use Rattle.cck_entry.specs.Results.{KeyResult, result_in, FitsResult}
 use Rattle.cck_entry.specs.Writing.{entry_bytes, include_bytes, length_prefixed, result_bytes}
 use Rattle.cck_entry.specs.Reading.{entry_at, comes_after, Fails}

@@ -10,7 +10,6 @@ pub mod LawLemmas
 pub mod LentLemmas
 pub mod LookupLemmas
 pub mod MatchLemmas
-pub mod MaterialLemmas
 pub mod ResultLoop
 pub mod StatusLemmas
 pub mod TextLemmas

@@ -10,10 +10,9 @@ use Rattle.cck_path.specs.Timestamp.{Moment}
 use Rattle.cck_digest.specs.declared.entry_error.Error.{Error}
 use Rattle.cck_digest.specs.declared.entry_error.Error.TheVariants.{Deserialization, Io, Memory, UnknownFormat}
 use Rattle.cck_entry.specs.Results.{FitsResult, KeyResult, result_in}
-use Rattle.cck_include.specs.Include.{Include}
+use Rattle.cck_include.specs.Include.{Include, format_version}
 use Rattle.cck_entry.specs.Writing.{entry_bytes}
 use Rattle.cck_include.specs.declared.include.IncludeEntry.{IncludeEntry}
-use Rattle.cck_entry.specs.PreprocessorKey.{format_version}
 
 -- an entry has, for each key, a list of includes
 abbrev pub Entry : Type 0

@@ -2,7 +2,6 @@
 use Rattle.std.specs.Prelude.{◌≡◌, ◌↔◌, ◌⊎◌, ℕ, ◌≤◌, List, MatchBool, length}
 use Rattle.std.specs.FinMap.{empty, entries, insert, len}
 use Rattle.cck_entry.specs.Entry.{Entry, EntryText, added, include_count, is_over}
-use Rattle.cck_entry.specs.PreprocessorKey.{RequestParts, preprocessor_material}
 use Rattle.cck_include.specs.Include.{Include}
 
 -- texts of entries are equal exactly if the entries are
@@ -18,12 +17,3 @@ AddedToAllOrNothing =
 abbrev pub AddedIsLimited : Type 0
 AddedIsLimited =
     (e : Entry) (key : List ℕ) (list : List Include) → (len (added e key list) ≤ 101) × ((len (added e key list) ≡ 1) ⊎ (include_count (entries (added e key list)) ≤ 10000))
-
--- ---- what equal key materials mean
-
--- key materials are equal exactly if all parts of the request, the hex digests of the extra files, and the recorded
--- digest of the input are
-abbrev pub PreprocessorMaterialTellsParts : Type 0
-PreprocessorMaterialTellsParts =
-    (p q : RequestParts) (xs ys : List (List ℕ)) (r s : List ℕ)
-    → preprocessor_material p xs r ≡ preprocessor_material q ys s ↔ ((p ≡ q) × (xs ≡ ys) × (r ≡ s))

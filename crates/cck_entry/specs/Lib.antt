@@ -5,8 +5,6 @@ pub mod Known
 pub mod Laws
 pub mod Lent
 pub mod Matching
-pub mod PreprocessorKey
-pub mod PreprocessorKeyRequest
 pub mod Reading
 pub mod Results
 pub mod Statuses

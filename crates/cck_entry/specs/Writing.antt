@@ -4,8 +4,7 @@ use Rattle.std.specs.Int.{w32, w64, cast_unsigned, to_le_bytes}
 use Rattle.std.specs.List.{flat_map}
 use Rattle.cck_path.specs.Timestamp.{Moment}
 use Rattle.cck_entry.specs.Results.{KeyResult}
-use Rattle.cck_include.specs.Include.{Include}
-use Rattle.cck_entry.specs.PreprocessorKey.{format_version}
+use Rattle.cck_include.specs.Include.{Include, format_version}
 
 -- the length of these bytes in 8 bytes, and the bytes
 abbrev pub length_prefixed : List ℕ → List ℕ

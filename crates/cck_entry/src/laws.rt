@@ -2,7 +2,7 @@
 ghost use Rattle.std.specs.Prelude.{◌≡◌, ◌↔◌, IsTrue};
 ghost use Rattle.cck_entry.specs.Entry.{Entry};
 ghost use Rattle.cck_entry.specs.Find.{GreatestIsFound};
-ghost use Rattle.cck_entry.specs.Laws.{AddedIsLimited, AddedToAllOrNothing, OneTextOneEntry, PreprocessorMaterialTellsParts};
+ghost use Rattle.cck_entry.specs.Laws.{AddedIsLimited, AddedToAllOrNothing, OneTextOneEntry};
 
 use crate::PreprocessorCacheEntry;
 pub use cck_digest::laws::error_equality_is_exact;
@@ -38,13 +38,4 @@ pub fn preprocessor_cache_entry_equality_is_exact()
 /// do.
 pub fn greatest_is_found()
     ensures { GreatestIsFound }
-{}
-
-/// Two key materials are equal exactly if their parts are: the parts of the request that are
-/// hashed, the hex digests of the extra files, and the recorded digest of the input.
-///
-/// Each length and each count is written before its bytes or items, so different parts never have
-/// the same key material.
-pub fn preprocessor_material_tells_parts()
-    ensures { PreprocessorMaterialTellsParts }
 {}

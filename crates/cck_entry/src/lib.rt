@@ -1,11 +1,10 @@
-//! The preprocessor cache, after sccache's `src/compiler/preprocessor_cache.rs`: the preprocessor
-//! key, and the *entry* that a store holds under it.
+//! The entries of the preprocessor cache, after sccache's `src/compiler/preprocessor_cache.rs`: a store
+//! holds an *entry* under the preprocessor key, which `cck_compiler` computes.
 //!
 //! An entry is a finite map from the keys of results to the files that each result included, as
 //! they were then. If all of them are unchanged at a later call, the result's key is returned and
 //! no preprocessor runs.
 //!
-//! - [`preprocessor_cache_entry_hash_key`] returns the key.
 //! - [`PreprocessorCacheEntry`] is an entry. [`PreprocessorCacheEntry::add_result`] gives it a
 //!   result, within limits, and [`PreprocessorCacheEntry::lookup_result_digest`] finds the result
 //!   whose files all still are what they were.
@@ -28,8 +27,7 @@
 //! files are judged by.
 //!
 //! The types that these calls take and return are exported again: hash functions and errors of
-//! `cck_digest`, files of `cck_files`, metadata and times of `cck_path`, and [`Language`] of
-//! `cck_util`. Zones are those of `jiff`.
+//! `cck_digest`, files of `cck_files`, metadata and times of `cck_path`. Zones are those of `jiff`.
 //!
 //! An entry is written in one way only. Numbers have their lowest byte first:
 //!
@@ -54,23 +52,6 @@
 //! let view = EntryView::read(alloc, &bytes)?; // for the look-up alone
 //! let key = view.lookup_result_digest::<Sha256State, _>(alloc, &mut files, later, &zone, &vars, config)?;
 //! ```
-//!
-//! # The preprocessor key
-//!
-//! The preprocessor key is the key under which a store is searched for an entry before anything is
-//! preprocessed. It is the hex digest of the *key material*:
-//!
-//! - the compiler and its arguments, and the hex digests of extra files that it reads;
-//! - the variables that change what is compiled or which files a preprocessor finds;
-//! - the path of the input, the working directory, and the input's
-//!   [recorded digest](cck_include::recorded_digest).
-//!
-//! The headers that the input includes are not known at this point. They are in the entry that the
-//! store holds under the key.
-//!
-//! - [`preprocessor_cache_entry_hash_key`] returns the key, and [`PreprocessorKeyRequest::compute`] that
-//!   of an input whose recorded digest is known.
-//! - [`FORMAT_VERSION`] is the format of entries, which is part of the key material.
 #![tactic(auto)]
 
 mod adding;
@@ -81,7 +62,6 @@ pub mod laws;
 mod lent;
 mod lookup;
 mod matching;
-mod preprocessor_key;
 mod reading;
 mod result_ref;
 mod results;
@@ -92,18 +72,14 @@ mod writing;
 pub use cck_digest::{Error, FileError, HashState, Sha256State, UtilError};
 pub use cck_files::{Files, MapFiles, Node};
 pub use cck_include::{
-    IncludeEntry, IncludeRef, JudgeContext, PreprocessorCacheModeConfig, gather, local_time_part,
-    recorded_digest,
+    FORMAT_VERSION, IncludeEntry, IncludeRef, JudgeContext, PreprocessorCacheModeConfig, gather,
+    local_time_part, recorded_digest,
 };
 pub use cck_path::{FileKind, Metadata, PathMap, Timestamp};
-pub use cck_util::{Language, UnknownLanguage};
 pub use entry::PreprocessorCacheEntry;
 pub use includes::Includes;
 pub use known::KnownFiles;
 pub use matching::{include_matches, includes_match, times_agree};
-pub use preprocessor_key::{
-    FORMAT_VERSION, PreprocessorKeyRequest, hashed_directory, preprocessor_cache_entry_hash_key,
-};
 pub use result_ref::ResultRef;
 pub use statuses::status_accepts;
 pub use view::EntryView;

@@ -3,16 +3,16 @@ ghost use Rattle.std.specs.Prelude.{◌≡◌, ◌∷◌, Err, List, ℕ, map, t
 ghost use Rattle.std.specs.FinMap.{empty, entries, is_sorted, len};
 ghost use Rattle.std.specs.List.{AllByRecursion};
 ghost use Rattle.cck_path.specs.TextOrder.{text_cmp};
-ghost use Rattle.cck_entry.specs.PreprocessorKey.{format_version};
+ghost use Rattle.cck_include.specs.Include.{format_version};
 ghost use Rattle.cck_entry.specs.Entry.{Entry, EntryText, IsEntryOrMemory, IsReadFrom, Reads, include_count};
 ghost use Rattle.cck_entry.specs.Lent.{IsWhole, result_lent};
 ghost use Rattle.cck_entry.specs.Reading.{IsOvercounted};
 
-use crate::FORMAT_VERSION;
 use crate::lent::total;
 use crate::reading::read_entry;
 use crate::result_ref::ResultRef;
 use cck_digest::Error;
+use cck_include::FORMAT_VERSION;
 use std::alloc::Global;
 use std::fmt::{Debug, Formatter};
 use std::marker::Model;

@@ -10,10 +10,9 @@ ghost use Rattle.cck_include.specs.Include.{include_in, includes_in};
 ghost use Rattle.cck_entry.specs.Results.{Fits, FitsMoment, FitsResult, result_in};
 ghost use Rattle.cck_entry.specs.Writing.{entry_bytes, include_bytes, length_prefixed, moment_bytes, result_bytes, time_bytes};
 
-use crate::FORMAT_VERSION;
 use crate::results::Results;
 use cck_digest::{Error, UtilError};
-use cck_include::IncludeEntry;
+use cck_include::{FORMAT_VERSION, IncludeEntry};
 use cck_path::Timestamp;
 use std::io::Write;
 

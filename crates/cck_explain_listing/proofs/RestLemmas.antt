@@ -6,7 +6,7 @@ use Rattle.std.specs.Prelude.{ok_or}
 use Rattle.std.specs.Str.{is_utf8}
 use Rattle.cck_entry.specs.Reading.{◌>>=◌, length_prefixed_at}
 use Rattle.cck_path.specs.Bytes.{Bytes}
-use Rattle.cck_entry.specs.PreprocessorKey.{format_version}
+use Rattle.cck_include.specs.Include.{format_version}
 use Rattle.cck_explain_listing.specs.Fault.{Field, Wrong, WrongIsPlaced, after_counted, after_include, after_includes, after_moment, after_results, after_time, and_then, bytes_in, comes_next, count_in, number_in, text_in, wrong_after, wrong_in}
 use Rattle.cck_explain_listing.specs.declared.fault.Cause.TheVariants.{KeyOrder, NotUtf8, TooMany, TooManyNanoseconds, TooShort, Trailing, UnknownFormat}
 

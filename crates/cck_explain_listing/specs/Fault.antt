@@ -6,7 +6,7 @@ use Rattle.std.specs.Str.{is_utf8}
 use Rattle.cck_entry.specs.Reading.{length_prefixed_at, number_at}
 use Rattle.cck_path.specs.Bytes.{Bytes}
 use Rattle.cck_path.specs.TextOrder.{text_cmp}
-use Rattle.cck_entry.specs.PreprocessorKey.{format_version}
+use Rattle.cck_include.specs.Include.{format_version}
 use Rattle.cck_explain_listing.specs.declared.fault.Cause.{Cause}
 use Rattle.cck_explain_listing.specs.declared.fault.Cause.TheVariants.{UnknownFormat, TooShort, TooMany, NotUtf8, UnknownTime, TooManyNanoseconds, KeyOrder, Trailing}
 use Rattle.cck_explain_listing.specs.declared.fault.Fault.{Fault}

@@ -24,7 +24,7 @@ use Rattle.cck_digest.specs.declared.key_error.KeyError.{KeyError}
 use Rattle.cck_digest.specs.declared.key_error.KeyError.TheVariants as key
 use Rattle.cck_path.specs.Bytes.{Bytes, lists_of}
 use Rattle.cck_path.specs.Path.{Path, components}
-use Rattle.cck_entry.specs.PreprocessorKey.{preprocessor_key, preprocessor_material}
+use Rattle.cck_compiler.specs.PreprocessorKey.{preprocessor_key, preprocessor_material}
 use Rattle.cck_digest.specs.declared.entry_error.Error.{Error}
 use Rattle.cck_hasher.specs.Call.{Call}
 use Rattle.cck_util.specs.Language.{is_preprocessed_first}

@@ -11,7 +11,7 @@ use Rattle.cck_include.specs.Recorded.{recorded}
 use Rattle.cck_path.specs.Bytes.{Bytes}
 use Rattle.cck_path.specs.Path.{components}
 use Rattle.cck_path.specs.Variables.{Variable, first_value}
-use Rattle.cck_entry.specs.PreprocessorKey.{RequestParts, hashed_directory, preprocessor_material}
+use Rattle.cck_compiler.specs.PreprocessorKey.{RequestParts, hashed_directory, preprocessor_material}
 use Rattle.cck_strip.specs.Argument.{stripped_argument}
 use Rattle.cck_strip.specs.Text.{stripped_text}
 use Rattle.cck_util.specs.Key.{KeyParts, material}

@@ -6,7 +6,7 @@ use Rattle.cck_include.specs.Recorded.{recorded}
 use Rattle.cck_digest.specs.declared.key_error.KeyError.{KeyError}
 use Rattle.cck_digest.specs.declared.key_error.KeyError.TheVariants as error
 use Rattle.cck_path.specs.Bytes.{Bytes}
-use Rattle.cck_entry.specs.PreprocessorKey.{preprocessor_key}
+use Rattle.cck_compiler.specs.PreprocessorKey.{preprocessor_key}
 use Rattle.cck_hasher.specs.Call.{Call}
 use Rattle.cck_hasher.specs.Keys.{extra_texts, input_file, input_recorded, preprocessor_key_of, request_parts}
 use Rattle.cck_hasher.specs.Reasons.{IsInputReason}

@@ -7,6 +7,10 @@ use Rattle.cck_include.specs.declared.include.IncludeEntry.{IncludeEntry}
 use Rattle.cck_include.specs.declared.include.IncludeRef.{IncludeRef}
 use Rattle.cck_path.specs.Timestamp.{Moment, same_moment}
 
+-- the format of entries
+abbrev pub format_version : ℕ
+format_version = 2
+
 -- a file that was included, as it was then
 pub record Include : Type 0 where
   pub path : List ℕ

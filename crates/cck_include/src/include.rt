@@ -6,6 +6,12 @@ use cck_digest::Error;
 use cck_path::Timestamp;
 use std::alloc::Global;
 
+/// The format of entries, and of the includes in them. It is their first byte, and the first byte of
+/// the key material of a preprocessor key, so that keys of different formats differ.
+///
+/// Upstream's `FORMAT_VERSION`.
+pub const FORMAT_VERSION: u8 = 2;
+
 /// A file that was included when a result was recorded.
 ///
 /// Upstream's `preprocessor_cache::IncludeEntry`.

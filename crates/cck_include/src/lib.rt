@@ -12,6 +12,7 @@
 //! - [`gather`] records each file that a result included as an [`IncludeEntry`]: its path, recorded
 //!   digest and size, and its times where both are before the call time.
 //!   An [`IncludeRef`] is the same with its path and digest borrowed from other bytes.
+//!   [`FORMAT_VERSION`] is the format in which they are kept.
 //! - [`JudgeContext`] is what a recorded digest depends on beside the file.
 //! - [`laws`] states what equal recorded digests imply, and what equal time parts do: the same day,
 //!   second and `SOURCE_DATE_EPOCH`; that each day has one date; and when there is a time part.
@@ -52,7 +53,7 @@ mod recorded;
 
 pub use config::PreprocessorCacheModeConfig;
 pub use gathering::gather;
-pub use include::{IncludeEntry, IncludeRef};
+pub use include::{FORMAT_VERSION, IncludeEntry, IncludeRef};
 pub use judge_context::JudgeContext;
 pub use part::local_time_part;
 pub use recorded::{digest_with_metadata, recorded_digest};

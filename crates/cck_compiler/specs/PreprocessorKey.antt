@@ -1,8 +1,9 @@
 -- the preprocessor key
-use Rattle.std.specs.Prelude.{ℕ, List, [], ◌∷◌, ◌++◌, Bool, Option, Some, None, if◌then◌else◌}
+use Rattle.std.specs.Prelude.{◌≡◌, ◌↔◌, ℕ, List, [], ◌∷◌, ◌++◌, Bool, Option, Some, None, if◌then◌else◌}
 use Rattle.cck_digest.specs.Digest.{digest_text}
 use Rattle.cck_digest.specs.Frames.{frame, framed_list, framed_option}
 use Rattle.cck_path.specs.Variables.{Variable}
+use Rattle.cck_include.specs.Include.{format_version}
 use Rattle.cck_include.specs.declared.config.PreprocessorCacheModeConfig.{PreprocessorCacheModeConfig}
 use Rattle.cck_util.specs.Key.{cache_version, flag_byte}
 use Rattle.cck_util.specs.Language.{language_name}
@@ -28,10 +29,6 @@ pub record RequestParts : Type 0 where
 abbrev pub hashed_directory : PreprocessorCacheModeConfig → List ℕ → Option (List ℕ)
 hashed_directory config cwd = if config.hash_working_directory then Some cwd else None
 
--- the format of entries
-abbrev pub format_version : ℕ
-format_version = 2
-
 -- what is hashed first: the versions, the compiler, and how it is run
 unfoldable pub compiler_material : RequestParts → List ℕ
 compiler_material p =
@@ -55,3 +52,10 @@ preprocessor_material p extra_hashes recorded =
 -- the key, with this hash function
 abbrev pub preprocessor_key : (List ℕ → List ℕ) → RequestParts → List (List ℕ) → List ℕ → List ℕ
 preprocessor_key hash p extra_hashes recorded = digest_text hash (preprocessor_material p extra_hashes recorded)
+
+-- key materials are equal exactly if all parts of the request, the hex digests of the extra files, and the recorded
+-- digest of the input are
+abbrev pub PreprocessorMaterialTellsParts : Type 0
+PreprocessorMaterialTellsParts =
+    (p q : RequestParts) (xs ys : List (List ℕ)) (r s : List ℕ)
+    → preprocessor_material p xs r ≡ preprocessor_material q ys s ↔ ((p ≡ q) × (xs ≡ ys) × (r ≡ s))

@@ -10,22 +10,16 @@ ghost use Rattle.cck_path.specs.Bytes.{lists_of, variables_of};
 ghost use Rattle.cck_path.specs.Path.{components};
 ghost use Rattle.cck_util.specs.Variables.{request_variables};
 ghost use Rattle.jiff.specs.Words.{plain_zone};
-ghost use Rattle.cck_entry.specs.PreprocessorKey.{RequestParts, compiler_material, hashed_directory, preprocessor_key};
+ghost use Rattle.cck_compiler.specs.PreprocessorKey.{RequestParts, compiler_material, hashed_directory, preprocessor_key};
 
 use cck_digest::{Digest, Error, HashState, UtilError, hash_len_prefixed};
 use cck_files::Files;
-use cck_include::{PreprocessorCacheModeConfig, recorded_digest};
+use cck_include::{FORMAT_VERSION, PreprocessorCacheModeConfig, recorded_digest};
 use cck_path::Timestamp;
 use cck_util::{CACHE_VERSION, Language, hash_option, hash_request_variables, hash_text_list};
 use jiff::tz::TimeZone;
 use std::alloc::Global;
 use std::marker::Model;
-
-/// The format of entries. It is their first byte, and the first byte of the key material, so that
-/// keys of different formats differ.
-///
-/// Upstream's `FORMAT_VERSION`.
-pub const FORMAT_VERSION: u8 = 2;
 
 /// The parts of a request that are hashed for its key, besides those that depend on files.
 pub struct PreprocessorKeyRequest<'a> {
@@ -72,11 +66,11 @@ impl Drop for PreprocessorKeyRequest<'_> {
 }
 
 impl<'a> Model for PreprocessorKeyRequest<'a> {
-    ghost use Rattle.cck_entry.specs.PreprocessorKey.{RequestParts};
+    ghost use Rattle.cck_compiler.specs.PreprocessorKey.{RequestParts};
 
     ghost Value = { RequestParts };
 
-    ghost use Rattle.cck_entry.specs.PreprocessorKeyRequest.{parts_of};
+    ghost use Rattle.cck_compiler.specs.PreprocessorKeyRequest.{parts_of};
 
     ghost view = { parts_of };
 }

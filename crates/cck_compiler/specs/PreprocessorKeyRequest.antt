@@ -1,8 +1,8 @@
 -- the value of a `PreprocessorKeyRequest`
 use Rattle.std.specs.Option.{option_map}
 use Rattle.cck_path.specs.Bytes.{lists_of, variables_of}
-use Rattle.cck_entry.specs.PreprocessorKey.{RequestParts}
-use Rattle.cck_entry.specs.declared.preprocessor_key.PreprocessorKeyRequest.TheInside.{Inside}
+use Rattle.cck_compiler.specs.PreprocessorKey.{RequestParts}
+use Rattle.cck_compiler.specs.declared.preprocessor_key.PreprocessorKeyRequest.TheInside.{Inside}
 use Rattle.cck_util.specs.Variables.{request_variables}
 
 -- the values of its fields, without their addresses

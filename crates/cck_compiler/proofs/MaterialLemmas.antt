@@ -7,7 +7,8 @@ use Rattle.cck_util.proofs.MaterialLemmas.{flag_reads_back, language_from_name, 
 use Rattle.cck_util.specs.Key.{cache_version, flag_byte}
 use Rattle.cck_util.specs.Language.{language_name}
 use Rattle.cck_util.specs.Variables.{variable_frames}
-use Rattle.cck_entry.specs.PreprocessorKey.{RequestParts, compiler_material, format_version, preprocessor_material}
+use Rattle.cck_include.specs.Include.{format_version}
+use Rattle.cck_compiler.specs.PreprocessorKey.{RequestParts, compiler_material, preprocessor_material}
 
 -- the key material up to the lists of arguments, and what follows
 abbrev begun : RequestParts → List ℕ → List ℕ

@@ -1,5 +1,0 @@
-use Rattle.cck_entry.proofs.MaterialLemmas.{preprocessor_material_tells_parts}
-use Rattle.cck_entry.proofs.laws.preprocessor_material_tells_parts.Goals as goal
-
-pub returns : goal.returns
-returns c = preprocessor_material_tells_parts
