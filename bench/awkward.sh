@@ -16,5 +16,5 @@ folder=${1:-$(mktemp -d)}
 printf '' | "$top/cck" key abcd c > /dev/null 2>&1 # proves and builds the program where it is stale
 entries=$("$top/tests/attack/program.sh" "$folder/entries")
 markers=$folder/work/crates/markers_bench/out/markers_bench
-[ -x "$markers" ] || build_program markers cck_markers 'cck_markers memchr'
+[ -x "$markers" ] || build_program markers 'cck_digest cck_path cck_files cck_include' 'cck_include memchr'
 exec python3 "$here/lib/awkward.py" "$top/crates/cck_run/out/cck_run" "$markers" "$entries" "$folder"

@@ -14,7 +14,6 @@ top=$(cd "$here/.." && pwd)
 folder=${1:-$(mktemp -d)}
 . "$here/lib/program.sh"
 
-build_program entry 'cck_digest cck_path cck_strip cck_files cck_util
-    cck_include cck_entry' \
+build_program entry 'cck_digest cck_path cck_files cck_include cck_entry' \
     'cck_digest cck_path cck_files cck_entry jiff anyhow'
 print_measures /dev/null /dev/null

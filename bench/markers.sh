@@ -17,7 +17,7 @@ folder=${1:-$(mktemp -d)}
 . "$here/lib/dense.sh"
 . "$here/lib/short_lines.sh"
 
-build_program markers cck_markers 'cck_markers memchr'
+build_program markers 'cck_digest cck_path cck_files cck_include' 'cck_include memchr'
 
 echo 'text         markers  line ends  ratio   (milliseconds, best of 11)'
 for text in headers dense feeds hashes underscores digits; do

@@ -1,7 +1,7 @@
 -- Texts that are written out, and their marks.
 use Rattle.std.proofs.Common.{true, false, List, [], ◌∷◌, codes, refl}
 use Rattle.cck_path.specs.Bytes.{Bytes}
-use Rattle.cck_markers.specs.Marks.{Mark, Name, Refusal, Malformed, Marks, is_hidden, is_inclusion, is_marker, what}
+use Rattle.cck_include.specs.Marks.{Mark, Name, Refusal, Malformed, Marks, is_hidden, is_inclusion, is_marker, what}
 use Rattle.c_cache_keys.proofs.MarksRead.{are_marks}
 use Rattle.c_cache_keys.specs.Witness.{printed_text}
 

@@ -5,8 +5,8 @@ use Rattle.std.proofs.lemmas.Bool.Decides.{Decides-eqb}
 use Rattle.std.proofs.lemmas.List.{append-nil}
 use Rattle.std.proofs.lemmas.List.Elements.{All-nil, All-cons}
 use Rattle.std.proofs.lemmas.Bool.{false≢true, or_parts}
-use Rattle.cck_markers.proofs.OneList.{no_stop, not_both, stop_same, some_nothing}
-use Rattle.cck_markers.specs.Marks.{Mark, Name, Refusal, Malformed, Marks, What, Short, Marker, Hidden, Inclusion, Plain, what, IsClosed, IsFree, Named, is_system, at_end, unnamed, named, malformed, hidden, hidden_to_end, refused, plain}
+use Rattle.cck_include.proofs.OneList.{no_stop, not_both, stop_same, some_nothing}
+use Rattle.cck_include.specs.Marks.{Mark, Name, Refusal, Malformed, Marks, What, Short, Marker, Hidden, Inclusion, Plain, what, IsClosed, IsFree, Named, is_system, at_end, unnamed, named, malformed, hidden, hidden_to_end, refused, plain}
 
 -- the bytes before the first that stops, and the others
 abbrev before : (ℕ → Bool) → List ℕ → List ℕ

@@ -4,8 +4,8 @@ use Rattle.std.specs.Prelude.{Contains}
 use Rattle.cck_files.specs.FileMap.{FileNode, file_at}
 use Rattle.cck_include.specs.Include.{Include}
 use Rattle.cck_include.specs.Recorded.{recorded}
-use Rattle.cck_markers.proofs.OneList.{one_list}
-use Rattle.cck_markers.specs.Marks.{Malformed, Mark, Name, Refusal}
+use Rattle.cck_include.proofs.OneList.{one_list}
+use Rattle.cck_include.specs.Marks.{Malformed, Mark, Name, Refusal}
 use Rattle.cck_path.specs.Bytes.{Bytes}
 use Rattle.cck_path.specs.Path.{Path, components}
 use Rattle.cck_hasher.proofs.Elements.{none_in, one_of}

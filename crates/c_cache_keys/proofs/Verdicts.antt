@@ -3,7 +3,7 @@ use Rattle.std.proofs.Common.{◌≡◌, ◌≢◌, ◌⊎◌, inl, inr, true, L
 use Rattle.std.specs.Prelude.{Contains}
 use Rattle.std.proofs.lemmas.Option.{none-some, same_Some}
 use Rattle.cck_include.specs.Include.{Include}
-use Rattle.cck_markers.proofs.OneList.{one_list}
+use Rattle.cck_include.proofs.OneList.{one_list}
 use Rattle.cck_path.specs.Bytes.{Bytes}
 use Rattle.cck_util.specs.Store.{Store, Stored}
 use Rattle.cck_hasher.proofs.Decisions.{one_decision}

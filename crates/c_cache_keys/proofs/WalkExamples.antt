@@ -8,9 +8,9 @@ use Rattle.cck_files.specs.FileMap.{FileMap, FileNode, file_at, file_if, file_in
 use Rattle.cck_path.specs.Bytes.{Bytes}
 use Rattle.cck_path.specs.declared.metadata.FileKind.TheVariants.{File}
 use Rattle.cck_include.specs.Recorded.{recorded}
-use Rattle.cck_markers.proofs.OneList.{some_nothing}
-use Rattle.cck_markers.proofs.OneList.{one_list}
-use Rattle.cck_markers.specs.Marks.{Mark, Name, Refusal, Malformed}
+use Rattle.cck_include.proofs.OneList.{some_nothing}
+use Rattle.cck_include.proofs.OneList.{one_list}
+use Rattle.cck_include.specs.Marks.{Mark, Name, Refusal, Malformed}
 use Rattle.cck_path.specs.Path.{Path, components, joined, normal, path_cmp}
 use Rattle.cck_path.specs.Text.{join_path}
 use Rattle.cck_path.specs.Timestamp.{Moment}

@@ -16,7 +16,7 @@ pub use cck_compiler::laws::{
 };
 use cck_digest::HashState;
 pub use cck_digest::laws::{key_error_equality_is_exact, preprocess_error_equality_is_exact};
-pub use cck_markers::laws::{
+pub use cck_include::laws::{
     line_equality_is_exact, mark_equality_is_exact, nothing_after_the_last_mark, one_list_of_marks,
     one_name_at_one_place,
 };

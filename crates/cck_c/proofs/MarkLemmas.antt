@@ -1,9 +1,9 @@
 -- marks that are read some at a time
 use Rattle.std.proofs.Common.{List, [], subst, append-nil}
-use Rattle.cck_markers.specs.Marks.{Mark}
-use Rattle.cck_markers.specs.Markers.{Yields, MarksLeft, Unread}
-use Rattle.cck_markers.proofs.ItemLemmas.{gives_both}
-use Rattle.cck_markers.proofs.OneList.{one_list}
+use Rattle.cck_include.specs.Marks.{Mark}
+use Rattle.cck_include.specs.Markers.{Yields, MarksLeft, Unread}
+use Rattle.cck_include.proofs.ItemLemmas.{gives_both}
+use Rattle.cck_include.proofs.OneList.{one_list}
 
 -- between two rests without marks there is none
 nothing_between : (old new : Unread) → MarksLeft old [] → MarksLeft new [] → Yields old [] new

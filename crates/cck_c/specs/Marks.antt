@@ -1,8 +1,8 @@
 -- marks and the rest of a text, as a caller stores them
 use Rattle.std.specs.Prelude.{ℕ, List, [], not, nat_eq, if◌then◌else◌}
 use Rattle.std.specs.Int.{from_bool}
-use Rattle.cck_markers.specs.Marks as marks
-use Rattle.cck_markers.specs.Markers.{Unread}
+use Rattle.cck_include.specs.Marks as marks
+use Rattle.cck_include.specs.Markers.{Unread}
 use Rattle.cck_c.specs.declared.marks.CMark.{CMark}
 use Rattle.cck_c.specs.declared.marks.UnreadText.{UnreadText}
 

@@ -1,9 +1,9 @@
 //! The marks of a preprocessed text.
 ghost use Rattle.std.specs.Prelude.{◌≡◌, ◌≤◌, ◌<◌, [], drop, length, map, take};
-ghost use Rattle.cck_markers.specs.Markers.{Yields, MarksLeft, mark_of};
+ghost use Rattle.cck_include.specs.Markers.{Yields, MarksLeft, mark_of};
 ghost use Rattle.cck_c.specs.Marks.{mark_fields, mark_in, stored_mark, unread_in};
 
-use cck_markers::Markers;
+use cck_include::Markers;
 
 /// The kind of a line marker's name.
 const NAME: u8 = 0;
@@ -65,22 +65,22 @@ pub extern "C" fn cck_marks<'a>(unread: &mut UnreadText<'a>, marks: &mut [CMark<
 }
 
 // Returns the mark as it is passed to a caller.
-fn passed(mark: cck_markers::Mark<'_>) -> CMark<'_>
+fn passed(mark: cck_include::Mark<'_>) -> CMark<'_>
     ensures value { mark_in result ≡ mark_of mark.entry }
     ensures fields { mark_fields result ≡ stored_mark (mark_of mark.entry) }
 {
     match mark {
-        cck_markers::Mark::Name { name, is_system } => CMark {
+        cck_include::Mark::Name { name, is_system } => CMark {
             name,
             kind: NAME,
             is_system: u8::from(is_system),
         },
-        cck_markers::Mark::Refusal => CMark {
+        cck_include::Mark::Refusal => CMark {
             name: &[],
             kind: REFUSAL,
             is_system: 0,
         },
-        cck_markers::Mark::Malformed => CMark {
+        cck_include::Mark::Malformed => CMark {
             name: &[],
             kind: MALFORMED,
             is_system: 0,

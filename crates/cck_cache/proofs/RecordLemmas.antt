@@ -27,8 +27,8 @@ use Rattle.cck_cache_arguments.specs.declared.task.Compilation.{Compilation}
 use Rattle.cck_files.specs.Calls.{Keeps, Rose}
 use Rattle.cck_files.specs.FileMap.{FileMap}
 use Rattle.cck_files.specs.FileState.{FileState, IsQuiet, fault_count}
-use Rattle.cck_markers.proofs.EachText.{has_one_list}
-use Rattle.cck_markers.specs.Marks.{Mark, Marks}
+use Rattle.cck_include.proofs.EachText.{has_one_list}
+use Rattle.cck_include.specs.Marks.{Mark, Marks}
 use Rattle.cck_path.specs.Bytes.{Bytes, lists_of}
 use Rattle.cck_path.specs.Timestamp.{Moment}
 use Rattle.c_cache_keys.specs.Recordings.{IsRecording}

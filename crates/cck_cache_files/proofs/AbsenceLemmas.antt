@@ -9,7 +9,7 @@ use Rattle.cck_cache_rules.specs.PathTest.{Test, test_of, tests_of}
 use Rattle.cck_cache_text.specs.Sets.{IsSetOf, has_key}
 use Rattle.cck_cache_rules.specs.declared.path_test.PathTest.{PathTest}
 use Rattle.cck_cache_text.proofs.SetLemmas.{has_key_at, key_at}
-use Rattle.cck_markers.specs.Marks.{Mark}
+use Rattle.cck_include.specs.Marks.{Mark}
 use Rattle.cck_path.specs.Bytes.{Bytes, lists_of}
 
 -- ---- the tests of paths

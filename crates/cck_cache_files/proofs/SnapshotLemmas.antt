@@ -11,7 +11,7 @@ use Rattle.cck_digest.specs.declared.error.UtilError.{UtilError}
 use Rattle.cck_files.specs.Calls.{Keeps, Rose}
 use Rattle.cck_files.specs.FileMap.{FileMap, FileNode, exists_at}
 use Rattle.cck_files.specs.FileState.{FileState, IsQuiet, fault_count}
-use Rattle.cck_markers.specs.Marks.{Mark, Name}
+use Rattle.cck_include.specs.Marks.{Mark, Name}
 use Rattle.cck_path.specs.Bytes.{Bytes}
 use Rattle.cck_path.specs.Path.{Path, components, joined, normal, path_cmp, path_cmp_total, path_cmp-IsAntisymmetric}
 use Rattle.cck_path.specs.Text.{path_text}

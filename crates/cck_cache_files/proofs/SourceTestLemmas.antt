@@ -14,7 +14,7 @@ use Rattle.cck_cache_files.specs.declared.path_states.PathStates.{PathStates}
 use Rattle.cck_cache_files.specs.declared.sources.Asked.{Asked}
 use Rattle.cck_cache_files.specs.declared.sources.Asked.TheVariants.{Paths}
 use Rattle.cck_files.specs.FileMap.{FileMap}
-use Rattle.cck_markers.specs.Marks.{Mark, Marks}
+use Rattle.cck_include.specs.Marks.{Mark, Marks}
 use Rattle.cck_path.specs.Bytes.{Bytes}
 use Rattle.cck_path.specs.Text.{join_path}
 

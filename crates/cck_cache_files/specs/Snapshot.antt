@@ -4,7 +4,7 @@ use Rattle.std.specs.FinMap.{get}
 use Rattle.cck_files.specs.FileMap.{FileMap, FileNode}
 use Rattle.cck_files.specs.FileState.{FileState, IsQuiet, fault_count, with_place}
 use Rattle.cck_path.specs.Bytes.{Bytes}
-use Rattle.cck_markers.specs.Marks.{Mark, Name}
+use Rattle.cck_include.specs.Marks.{Mark, Name}
 use Rattle.cck_path.specs.Path.{Path, components, joined, normal}
 use Rattle.cck_path.specs.Text.{path_text}
 

@@ -16,7 +16,7 @@ use Rattle.cck_cache_files.specs.declared.sources.SourceVerdict.{SourceVerdict}
 use Rattle.cck_cache_files.specs.declared.sources.SourceVerdict.TheVariants as verdict
 use Rattle.cck_digest.specs.declared.error.FileError.{FileError}
 use Rattle.cck_files.specs.FileMap.{FileMap, contents_at}
-use Rattle.cck_markers.specs.Marks.{Mark}
+use Rattle.cck_include.specs.Marks.{Mark}
 use Rattle.cck_path.specs.Bytes.{Bytes}
 use Rattle.cck_path.specs.Path.{components}
 

@@ -6,7 +6,7 @@ use Rattle.cck_cache_files.specs.ReadOnce.{HasCopies}
 use Rattle.cck_cache_text.specs.Names.{is_named}
 use Rattle.cck_digest.specs.TimeMacros.{Has}
 use Rattle.cck_files.specs.FileMap.{FileMap}
-use Rattle.cck_markers.specs.Marks.{Mark, Marks}
+use Rattle.cck_include.specs.Marks.{Mark, Marks}
 use Rattle.cck_path.specs.Bytes.{Bytes}
 
 -- a text has the word of a directive that imports a file

@@ -10,8 +10,8 @@ ghost use Rattle.cck_cache_files.specs.Copies.{AreKnown, IsInSnapshot, IsKnownAt
 ghost use Rattle.cck_cache_files.specs.declared.copies.KnownFile.{KnownFile};
 ghost use Rattle.cck_files.specs.Calls.{Keeps};
 ghost use Rattle.cck_files.specs.FileState.{IsQuiet, fault_count};
-ghost use Rattle.cck_markers.specs.Marks as spec;
-ghost use Rattle.cck_markers.specs.Marks.{Marks};
+ghost use Rattle.cck_include.specs.Marks as spec;
+ghost use Rattle.cck_include.specs.Marks.{Marks};
 
 use crate::read_once::{may_be_read_once, without_mark};
 use crate::times::{changed, changed_before, modified};

@@ -3,8 +3,8 @@ ghost use Rattle.std.specs.Prelude.{◌≡◌, IfSome, IsOkUnless, IsTrue, List,
 ghost use Rattle.cck_files.specs.Calls.{Keeps};
 ghost use Rattle.cck_files.specs.FileMap.{contents_of_kind};
 ghost use Rattle.cck_files.specs.FileState.{IsQuiet, fault_count};
-ghost use Rattle.cck_markers.specs.Marks.{Marks};
-ghost use Rattle.cck_markers.specs.Marks as marks;
+ghost use Rattle.cck_include.specs.Marks.{Marks};
+ghost use Rattle.cck_include.specs.Marks as marks;
 ghost use Rattle.cck_cache_files.specs.PathStates.{KeepsStates};
 ghost use Rattle.cck_cache_files.specs.Snapshot.{GrowsAt, SnapshotGrows, IsAdded, IsNamedFile, IsPart, IsNodePut, StaysCalm, named_path};
 
@@ -13,7 +13,7 @@ use crate::path_states::PathStates;
 use crate::times::{changed, modified};
 use cck_digest::UtilError;
 use cck_files::{Files as FilesInMemory, MapFiles, Node};
-use cck_markers::{Mark, Markers};
+use cck_include::{Mark, Markers};
 use cck_path::{FileKind, join_path, normalize_path};
 use std::fs;
 use std::fs::{Metadata, OpenFile};

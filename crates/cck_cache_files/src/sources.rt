@@ -7,8 +7,8 @@ ghost use Rattle.cck_cache_text.specs.SearchList.{search_fields};
 ghost use Rattle.cck_cache_files.specs.Sources.{AreAsked, IsContents, IsContentsAt, SourceAsks};
 ghost use Rattle.cck_files.specs.Calls.{Keeps};
 ghost use Rattle.cck_files.specs.FileState.{IsQuiet, fault_count};
-ghost use Rattle.cck_markers.specs.Marks as spec;
-ghost use Rattle.cck_markers.specs.Marks.{Marks};
+ghost use Rattle.cck_include.specs.Marks as spec;
+ghost use Rattle.cck_include.specs.Marks.{Marks};
 
 use cck_cache_text::{
     SearchList, add_tested_paths, file_names, has_dependency_pragma, has_doubtful_lines,

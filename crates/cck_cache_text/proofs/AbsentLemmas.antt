@@ -6,7 +6,7 @@ use Rattle.std.specs.Global.{Vec}
 use Rattle.std.specs.Option.{MatchOption, option_map}
 use Rattle.std.specs.Prelude.{Contains}
 use Rattle.std.proofs.lemmas.Bool.{cases_lt, or_cases, or_left, or_right}
-use Rattle.cck_markers.specs.Marks.{Mark}
+use Rattle.cck_include.specs.Marks.{Mark}
 use Rattle.cck_cache_text.specs.Included.{IsHeader}
 use Rattle.cck_cache_text.specs.Names.{AreNames, is_named, is_place}
 use Rattle.cck_cache_text.specs.SearchList.{SearchFields}

@@ -10,7 +10,7 @@ use Rattle.std.specs.Result.{IfOk}
 use Rattle.cck_digest.specs.declared.error.UtilError.{UtilError}
 use Rattle.cck_digest.specs.TimeMacros.{Has}
 use Rattle.std.specs.Str.{bytes_eq}
-use Rattle.cck_markers.specs.Marks.{Mark, Marks}
+use Rattle.cck_include.specs.Marks.{Mark, Marks}
 use Rattle.cck_path.specs.Text.{join_path}
 use Rattle.cck_cache_text.specs.Left.{IsLeft, IsLeftAt, IsLeftOn}
 use Rattle.cck_cache_text.specs.Names.{AreNames, is_named}

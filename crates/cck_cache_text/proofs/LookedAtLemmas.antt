@@ -2,7 +2,7 @@
 use Rattle.std.proofs.Common.{◌≡◌, ◌∙◌, ℕ, ◌⊎◌, inl, inr, Bool, true, false, List, [], ◌++◌, IsTrue, get_or, length, map, sym, ap, subst, arith}
 use Rattle.std.specs.BTreeSet.{BTreeSet}
 use Rattle.std.specs.Global.{Vec}
-use Rattle.cck_markers.specs.Marks.{Mark}
+use Rattle.cck_include.specs.Marks.{Mark}
 use Rattle.cck_cache_text.specs.Absent.{path_in}
 use Rattle.cck_cache_text.specs.Included.{AreIncluded}
 use Rattle.cck_cache_text.specs.LookedAt.{IsInPlace, IsLookedAt, IsUnnamedPath}

@@ -5,10 +5,10 @@ use Rattle.std.specs.Option.{is_some}
 use Rattle.std.specs.Str.{bytes_eq}
 use Rattle.std.proofs.lemmas.Bool.{or_left, or_right}
 use Rattle.std.proofs.lemmas.Slice.Eq.{bytes_eq-Decides}
-use Rattle.cck_markers.specs.Marks.{Mark, Name, Refusal, Malformed}
-use Rattle.cck_markers.specs.Markers.{mark_of}
-use Rattle.cck_markers.specs.declared.mark.Mark as declared
-use Rattle.cck_markers.specs.declared.mark.Mark.TheVariants as variant
+use Rattle.cck_include.specs.Marks.{Mark, Name, Refusal, Malformed}
+use Rattle.cck_include.specs.Markers.{mark_of}
+use Rattle.cck_include.specs.declared.mark.Mark as declared
+use Rattle.cck_include.specs.declared.mark.Mark.TheVariants as variant
 use Rattle.cck_cache_text.specs.Names.{AreNames, directory_of, first_of_name, is_named, is_no_file, is_place, is_some_true, is_system_name}
 use Rattle.cck_cache_text.specs.Sets.{has_key}
 use Rattle.cck_cache_text.specs.declared.names.Named.{Named}

@@ -5,7 +5,7 @@ use Rattle.std.specs.List.{list_all, list_any}
 use Rattle.std.specs.Str.{bytes_eq}
 use Rattle.std.proofs.lemmas.Bool.{and_from, and_parts, or_cases, or_left, or_right}
 use Rattle.std.proofs.lemmas.Slice.Eq.{bytes_eq-Decides}
-use Rattle.cck_markers.specs.Marks.{Mark}
+use Rattle.cck_include.specs.Marks.{Mark}
 use Rattle.cck_cache_text.specs.Names.{AreNames, directory_of}
 use Rattle.cck_cache_text.specs.ReadFiles.{AreListed, AreNamesOf, IsNameOf, is_name_of, without_dots}
 use Rattle.cck_cache_text.specs.Rule.{IsRule}

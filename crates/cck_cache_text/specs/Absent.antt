@@ -3,7 +3,7 @@ use Rattle.std.specs.Prelude.{◌≡◌, ℕ, Bool, ◌<◌, ◌⊎◌, true, fa
 use Rattle.std.specs.List.{ends_with}
 use Rattle.std.specs.BTreeSet.{BTreeSet}
 use Rattle.std.specs.Global.{Vec}
-use Rattle.cck_markers.specs.Marks.{Mark}
+use Rattle.cck_include.specs.Marks.{Mark}
 use Rattle.cck_cache_text.specs.Included.{IsHeader}
 use Rattle.cck_cache_text.specs.Names.{is_named, is_place, is_system_name}
 use Rattle.cck_cache_text.specs.SearchList.{SearchFields}

@@ -1,7 +1,7 @@
 -- the directories that names leave by `..`
 use Rattle.std.specs.Prelude.{◌≡◌, ◌<◌, ℕ, List, Some, IsTrue, codes, drop, slice_get, take}
 use Rattle.cck_digest.specs.TimeMacros.{Has}
-use Rattle.cck_markers.specs.Marks.{Mark}
+use Rattle.cck_include.specs.Marks.{Mark}
 use Rattle.cck_path.specs.Text.{join_path}
 use Rattle.cck_cache_text.specs.Names.{is_named}
 

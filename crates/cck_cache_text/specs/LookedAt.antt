@@ -1,6 +1,6 @@
 -- the paths at which a preprocessor looks for the headers that a text includes
 use Rattle.std.specs.Prelude.{◌≡◌, ℕ, ◌⊎◌, Bool, true, false, List, ◌++◌, IsTrue}
-use Rattle.cck_markers.specs.Marks.{Mark}
+use Rattle.cck_include.specs.Marks.{Mark}
 use Rattle.cck_cache_text.specs.Included.{IsHeader}
 use Rattle.cck_cache_text.specs.Names.{is_named, is_place}
 use Rattle.cck_cache_text.specs.TestedPaths.{IsInList, is_absolute}

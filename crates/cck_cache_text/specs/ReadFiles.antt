@@ -5,7 +5,7 @@ use Rattle.std.specs.Char.{is_ascii_alphanumeric}
 use Rattle.std.specs.Global.{Vec}
 use Rattle.std.specs.List.{ends_with, list_all, list_any, starts_with}
 use Rattle.std.specs.Str.{bytes_eq}
-use Rattle.cck_markers.specs.Marks.{Mark, Marks}
+use Rattle.cck_include.specs.Marks.{Mark, Marks}
 use Rattle.cck_cache_text.specs.Names.{directory_of, is_named}
 use Rattle.cck_cache_text.specs.Rule.{IsRule}
 use Rattle.cck_cache_text.specs.Sets.{has_key}

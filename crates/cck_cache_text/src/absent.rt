@@ -1,8 +1,8 @@
 //! The paths at which a preprocessor looked for headers and found none.
 ghost use Rattle.std.specs.Prelude.{◌≡◌, ◌<◌, ◌↔◌, ◌++◌, Contains, IfOk, IsTrue, List, OnOk, [], get_or, length, map, true, ℕ};
 ghost use Rattle.std.specs.Option.{option_map};
-ghost use Rattle.cck_markers.specs.Marks as spec;
-ghost use Rattle.cck_markers.specs.Marks.{Marks};
+ghost use Rattle.cck_include.specs.Marks as spec;
+ghost use Rattle.cck_include.specs.Marks.{Marks};
 ghost use Rattle.cck_cache_text.specs.Absent.{AreAbsentNames, AreAdded, IsBeforeDirectory, IsBeside, IsForName, IsListed, IsInDirectory, path_in, separator};
 ghost use Rattle.cck_cache_rules.specs.Reading.{ReadsBack, byte_lists};
 ghost use Rattle.cck_cache_text.specs.SearchList.{search_fields};

@@ -1,7 +1,7 @@
 //! The directories that names leave by `..`.
 ghost use Rattle.std.specs.Prelude.{◌<◌, IfOk, IsOkUnless, IsTrue, List, MatchBool, OnOk, length, true, ℕ};
-ghost use Rattle.cck_markers.specs.Marks as spec;
-ghost use Rattle.cck_markers.specs.Marks.{Marks};
+ghost use Rattle.cck_include.specs.Marks as spec;
+ghost use Rattle.cck_include.specs.Marks.{Marks};
 ghost use Rattle.cck_path.specs.Text.{join_path};
 ghost use Rattle.cck_cache_text.specs.Left.{IsLeft, IsLeftAt, IsLeftOn};
 ghost use Rattle.cck_cache_text.specs.Sets.{Adds, IsSetOf, has_key};

@@ -1,7 +1,7 @@
 //! The paths at which a preprocessor looks for the headers that a text includes.
 ghost use Rattle.std.specs.Prelude.{◌≡◌, Bool, IfOk, IsTrue, List, OnOk, false, map, true, ℕ};
-ghost use Rattle.cck_markers.specs.Marks as spec;
-ghost use Rattle.cck_markers.specs.Marks.{Marks};
+ghost use Rattle.cck_include.specs.Marks as spec;
+ghost use Rattle.cck_include.specs.Marks.{Marks};
 ghost use Rattle.cck_cache_text.specs.LookedAt.{IsInPlace, IsLookedAt, IsUnnamedPath};
 ghost use Rattle.cck_cache_text.specs.SearchList.{search_fields};
 ghost use Rattle.cck_cache_text.specs.Sets.{Adds, IsSetOf, has_key};

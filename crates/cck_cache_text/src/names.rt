@@ -1,11 +1,11 @@
 //! The files that a preprocessed text names.
 ghost use Rattle.std.specs.Prelude.{◌≡◌, ◌∷◌, ◌++◌, [], IfOk, List, OnOk, false, true, ℕ};
-ghost use Rattle.cck_markers.specs.Marks as spec;
-ghost use Rattle.cck_markers.specs.Marks.{Marks};
+ghost use Rattle.cck_include.specs.Marks as spec;
+ghost use Rattle.cck_include.specs.Marks.{Marks};
 ghost use Rattle.cck_cache_text.specs.Names.{AreNames, directory_of, is_named, is_no_file, is_system_name};
 ghost use Rattle.cck_cache_text.specs.Sets.{has_key};
 
-use cck_markers::{Mark, Markers};
+use cck_include::{Mark, Markers};
 use memchr::memrchr;
 use std::alloc::{AllocError, Global};
 use std::collections::BTreeSet;

@@ -2,8 +2,8 @@
 ghost use Rattle.std.specs.Prelude.{◌≡◌, ◌↔◌, IfOk, IsTrue, List, map, true};
 ghost use Rattle.std.specs.Char.{is_ascii_alphanumeric};
 ghost use Rattle.std.specs.List.{list_all};
-ghost use Rattle.cck_markers.specs.Marks as spec;
-ghost use Rattle.cck_markers.specs.Marks.{Marks};
+ghost use Rattle.cck_include.specs.Marks as spec;
+ghost use Rattle.cck_include.specs.Marks.{Marks};
 ghost use Rattle.cck_cache_text.specs.ReadFiles.{AreNamesOf, IsAssembledRule, IsOpenedRule, file_of, is_made_file, is_name_of, is_of_compiler, without_dots};
 
 use crate::names::{directory_of, names_in};

@@ -5,10 +5,10 @@ use Rattle.std.proofs.lemmas.Bool.{ne_eqb}
 use Rattle.std.proofs.lemmas.List.Elements.{All-push}
 use Rattle.std.proofs.lemmas.List.Sums.{count_by-le-length, prefix_len-le-length, sum_by-append}
 use Rattle.std.specs.List.{prefix_len}
-use Rattle.cck_markers.proofs.ItemLemmas.{gives_both}
-use Rattle.cck_markers.specs.Items.{IsHere, marks_of}
-use Rattle.cck_markers.specs.Markers.{Yields, Unread, mark_of}
-use Rattle.cck_markers.specs.declared.mark.Mark.{Mark}
+use Rattle.cck_include.proofs.ItemLemmas.{gives_both}
+use Rattle.cck_include.specs.Items.{IsHere, marks_of}
+use Rattle.cck_include.specs.Markers.{Yields, Unread, mark_of}
+use Rattle.cck_include.specs.declared.mark.Mark.{Mark}
 use Rattle.cck_explain_listing.specs.Place.{IsPlacedIn, placed_at, position_after}
 use Rattle.cck_explain_listing.specs.declared.place.PlacedMark.{PlacedMark}
 use Rattle.cck_explain_listing.specs.declared.place.Position.{Position}

@@ -4,8 +4,8 @@ use Rattle.std.specs.Fmt.{decimal}
 use Rattle.std.specs.List.{flat_map}
 use Rattle.std.specs.Ordering.{eq_by_cmp}
 use Rattle.cck_explain_listing.specs.Quoted.{quoted}
-use Rattle.cck_markers.specs.declared.mark.Mark.{Mark}
-use Rattle.cck_markers.specs.declared.mark.Mark.TheVariants.{Name, Refusal, Malformed}
+use Rattle.cck_include.specs.declared.mark.Mark.{Mark}
+use Rattle.cck_include.specs.declared.mark.Mark.TheVariants.{Name, Refusal, Malformed}
 use Rattle.cck_path.specs.Bytes.{Bytes}
 use Rattle.cck_path.specs.Path.{Path, components, joined, normal, path_cmp}
 use Rattle.cck_path.specs.Text.{path_text}

@@ -1,10 +1,10 @@
 -- the marks of a text with their places
 use Rattle.std.specs.Prelude.{◌≡◌, ℕ, ◌+◌, ◌==◌, not, List, ◌++◌, All, count_by, map, reverse, Option, Some, None, [], ◌∷◌, Bool, true}
 use Rattle.std.specs.List.{prefix_len}
-use Rattle.cck_markers.specs.Items.{IsHere}
-use Rattle.cck_markers.specs.Markers.{mark_of}
-use Rattle.cck_markers.specs.Marks.{Marks}
-use Rattle.cck_markers.specs.declared.mark.Mark.{Mark}
+use Rattle.cck_include.specs.Items.{IsHere}
+use Rattle.cck_include.specs.Markers.{mark_of}
+use Rattle.cck_include.specs.Marks.{Marks}
+use Rattle.cck_include.specs.declared.mark.Mark.{Mark}
 use Rattle.cck_explain_listing.specs.declared.place.PlacedMark.{PlacedMark}
 use Rattle.cck_explain_listing.specs.declared.place.Position.{Position}
 

@@ -2,7 +2,7 @@
 ghost use Rattle.std.specs.Prelude.{◌≡◌, ◌↔◌, IsTrue};
 ghost use Rattle.cck_explain_listing.specs.Checksum.{OneByteShows};
 ghost use Rattle.cck_explain_listing.specs.Fault.{WrongIsPlaced};
-ghost use Rattle.cck_markers.specs.Markers.{mark_of};
+ghost use Rattle.cck_include.specs.Markers.{mark_of};
 
 use crate::{Cause, EntryError, Fault, PlacedMark, Position};
 

@@ -8,7 +8,7 @@ ghost use Rattle.cck_explain_listing.specs.MarkerListing.{AreMarkerLines, is_bra
 
 use crate::place::{PlacedMark, placed_marks};
 use crate::push_quoted;
-use cck_markers::Mark;
+use cck_include::Mark;
 use cck_path::{compare_paths, join_path, normalize_path};
 use std::alloc::{AllocError, Global};
 

@@ -2,7 +2,7 @@
 ghost use Rattle.std.specs.Prelude.{◌≡◌, ℕ, ◌+◌, ◌<◌, ◌^◌, ◌++◌, List, [], IfOk, OnOk, length};
 ghost use Rattle.cck_explain_listing.specs.Place.{ArePlacedMarks, placed_at, position_after};
 
-use cck_markers::{Mark, read_item};
+use cck_include::{Mark, read_item};
 use std::alloc::{AllocError, Global};
 
 /// A place in a text.

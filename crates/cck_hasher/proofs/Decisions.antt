@@ -6,7 +6,7 @@ use Rattle.std.specs.Ordering.{eq_by_cmp}
 use Rattle.std.specs.Prelude.{Contains, cond}
 use Rattle.std.proofs.lemmas.Option.{same_Some, none-some}
 use Rattle.cck_files.specs.FileMap.{FileNode, file_at, folder_at}
-use Rattle.cck_markers.specs.Marks.{Mark, Name, Refusal, Malformed}
+use Rattle.cck_include.specs.Marks.{Mark, Name, Refusal, Malformed}
 use Rattle.cck_path.specs.Bytes.{Bytes}
 use Rattle.cck_path.specs.Path.{Path, components, path_cmp, path_cmp_total}
 use Rattle.cck_walk.specs.Decided.{Accepts, Decided, Digests, IsRefused, Outcome, Passes, Records, Refuses, after, decided, is_known, is_passed, outcome, path_outcome, judgement_outcome}

@@ -13,8 +13,8 @@ use Rattle.cck_include.specs.Gathered.{Digested, all_of, gathered, gathered_incl
 use Rattle.cck_include.specs.Include.{Include}
 use Rattle.cck_digest.specs.declared.key_error.KeyError.{KeyError}
 use Rattle.cck_digest.specs.declared.key_error.KeyError.TheVariants as error
-use Rattle.cck_markers.proofs.OneList.{one_list}
-use Rattle.cck_markers.specs.Marks.{Mark, Marks, Name}
+use Rattle.cck_include.proofs.OneList.{one_list}
+use Rattle.cck_include.specs.Marks.{Mark, Marks, Name}
 use Rattle.cck_path.specs.Bytes.{Bytes, variables_of}
 use Rattle.cck_path.specs.Path.{Path, components, path_cmp}
 use Rattle.cck_path.specs.Text.{path_text}

@@ -6,7 +6,7 @@ use Rattle.cck_files.specs.FileMap.{FileNode, file_at, folder_at}
 use Rattle.cck_include.specs.Gathered.{is_before}
 use Rattle.cck_include.specs.Include.{Include}
 use Rattle.cck_include.specs.Recorded.{recorded}
-use Rattle.cck_markers.specs.Marks.{Mark, Name, Refusal, Malformed, Marks}
+use Rattle.cck_include.specs.Marks.{Mark, Name, Refusal, Malformed, Marks}
 use Rattle.cck_path.specs.Bytes.{Bytes}
 use Rattle.cck_path.specs.Path.{Path, components, joined, normal, path_cmp}
 use Rattle.cck_path.specs.Text.{join_path, path_text}

@@ -3,9 +3,14 @@ pub mod Config
 pub mod Errors
 pub mod Gathered
 pub mod Include
+pub mod Items
 pub mod JudgeContext
 pub mod Laws
+pub mod Lines
+pub mod Markers
+pub mod Marks
 pub mod Recorded
 pub mod Scan
+pub mod Searches
 pub mod Setting
 pub mod TimePart

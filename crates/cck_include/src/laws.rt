@@ -1,16 +1,20 @@
 //! Laws about the definitions. Each is the contract of a function with an empty body.
-ghost use Rattle.std.specs.Prelude.{◌≡◌, ◌↔◌, IsTrue, ℕ, ℤ, Bool, true, List, Option, Some, IsSome};
+ghost use Rattle.std.specs.Prelude.{◌≡◌, ◌↔◌, ◌++◌, ◌∷◌, [], ℕ, ℤ, Bool, true, IsSome, IsTrue, List, Option, Some};
 ghost use Rattle.std.specs.Option.{IsSomeAnd};
 ghost use Rattle.cck_include.specs.Calendar.{CivilDate, IsInCalendar, date_of_day, day_number};
 ghost use Rattle.cck_include.specs.Include.{include_in};
 ghost use Rattle.cck_include.specs.Laws.{EqualDigestsTell, RecordedHasLength};
+ghost use Rattle.cck_include.specs.Lines.{read_of};
+ghost use Rattle.cck_include.specs.Markers.{mark_of};
+ghost use Rattle.cck_include.specs.Marks.{HasOneList, Malformed, Marks, Named, Refusal, Unnamed};
+ghost use Rattle.cck_include.specs.Marks as marks;
 ghost use Rattle.cck_include.specs.TimePart.{AreOfOneSecond, date_bytes, i64_bytes, is_instant, local_date, local_day, local_second, source_date_epoch, time_part};
 ghost use Rattle.cck_path.specs.Timestamp.{Moment, nanos_of};
 ghost use Rattle.cck_path.specs.Variables.{Variable};
 ghost use Rattle.jiff.specs.Types.{TimeZone};
 ghost use Rattle.jiff.specs.Words.{IsEpochDay, IsTimestampNanos};
 
-use crate::{IncludeEntry, PreprocessorCacheModeConfig};
+use crate::{IncludeEntry, Line, Mark, PreprocessorCacheModeConfig};
 
 /// A recorded digest has 64 characters, and 128 where the time part of its file counts, if the
 /// output of the hash function has 32 bytes.
@@ -92,4 +96,38 @@ pub fn equal_parts_tell()
 pub fn preprocessor_cache_mode_config_equality_is_exact()
     ensures { (a b : PreprocessorCacheModeConfig) →
         IsTrue (⟦<PreprocessorCacheModeConfig as PartialEq>⟧.eq a b) ↔ (a ≡ b) }
+{}
+
+/// Each text has a list of marks, and only one.
+pub fn one_list_of_marks()
+    ensures { HasOneList }
+{}
+
+/// Nothing follows `Refusal` or `Malformed` in a list of marks.
+pub fn nothing_after_the_last_mark()
+    ensures refusal { (starts_line : Bool) (text : List ℕ) (before following : List marks.Mark) →
+        Marks starts_line text (before ++ Refusal ∷ following) → following ≡ [] }
+    ensures malformed { (starts_line : Bool) (text : List ℕ) (before following : List marks.Mark) →
+        Marks starts_line text (before ++ Malformed ∷ following) → following ≡ [] }
+{}
+
+/// No marker both has a name and has none. There is one place for the name, and one for the line's
+/// end of a marker with none.
+pub fn one_name_at_one_place()
+    ensures apart { (text : List ℕ) → Unnamed text → Named text → ⊥ }
+    ensures unnamed { (text : List ℕ) (a b : Unnamed text) → a.front ≡ b.front }
+    ensures named { (text : List ℕ) (a b : Named text) →
+        (a.front ≡ b.front) × (a.name ≡ b.name) × (a.rest ≡ b.rest) }
+{}
+
+/// Two [`Mark`]s are equal exactly if they say the same, with the same bytes of a name.
+pub fn mark_equality_is_exact()
+    ensures { (a b : Mark) →
+        IsTrue (⟦<Mark<'static> as PartialEq>⟧.eq a b) ↔ (mark_of a ≡ mark_of b) }
+{}
+
+/// Two [`Line`]s are equal exactly if they say the same, with the same bytes of a name.
+pub fn line_equality_is_exact()
+    ensures { (a b : Line) →
+        IsTrue (⟦<Line<'static> as PartialEq>⟧.eq a b) ↔ (read_of a ≡ read_of b) }
 {}

@@ -1,8 +1,8 @@
 -- The result for a line marker, from what is read of it.
 use Rattle.std.proofs.Common.{◌≡◌, ◌≢◌, ◌⊎◌, inl, inr, ℕ, ◌+◌, Bool, true, false, List, [], Ok, Err, refl, sym, ap, ◌∙◌}
 use Rattle.cck_digest.specs.declared.key_error.KeyError.TheVariants as error
-use Rattle.cck_markers.specs.Lines.{IsNamedAt, IsUnnamedTo}
-use Rattle.cck_markers.specs.Marks.{Named, Unnamed, is_system}
+use Rattle.cck_include.specs.Lines.{IsNamedAt, IsUnnamedTo}
+use Rattle.cck_include.specs.Marks.{Named, Unnamed, is_system}
 use Rattle.cck_path.specs.Path.{Path}
 use Rattle.cck_walk.specs.Decided.{Context, Digests, IsLookedFor, Refuses, after, is_looked_for, outcome, path_named}
 use Rattle.cck_walk.specs.Line.{IsLineResult, IsLineLookedFor, IsNameResult}

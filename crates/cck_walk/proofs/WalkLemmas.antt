@@ -6,9 +6,9 @@ use Rattle.std.specs.List.{AllByRecursion}
 use Rattle.std.specs.FinMap.{empty}
 use Rattle.cck_files.proofs.CallsLemmas.{calls_all, calls_among}
 use Rattle.cck_files.specs.Calls.{AreCalls}
-use Rattle.cck_markers.proofs.EachText.{each_text}
-use Rattle.cck_markers.specs.Markers.{Yields, MarksLeft, Unread, unread_text}
-use Rattle.cck_markers.specs.Marks.{Mark, Name, Refusal, Malformed}
+use Rattle.cck_include.proofs.EachText.{each_text}
+use Rattle.cck_include.specs.Markers.{Yields, MarksLeft, Unread, unread_text}
+use Rattle.cck_include.specs.Marks.{Mark, Name, Refusal, Malformed}
 use Rattle.cck_path.specs.Path.{Path}
 use Rattle.cck_walk.specs.Decided.{Accepts, IsAskedFor, AsksForNone, Context, TextDecides, Digests, Errs, IsLookedFor, IsRefused, LooksForNone, Outcome, Passes, Refuses, after, decided, is_known, is_looked_for, is_passed, outcome, path_named, judgement_outcome}
 use Rattle.cck_walk.specs.Judgement.{judgement_at}

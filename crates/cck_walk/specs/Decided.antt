@@ -6,7 +6,7 @@ use Rattle.std.specs.Ordering.{eq_by_cmp}
 use Rattle.std.specs.Global.{Vec}
 use Rattle.cck_files.specs.FileMap.{FileMap}
 use Rattle.cck_include.specs.Setting.{Setting, setting_in}
-use Rattle.cck_markers.specs.Marks.{Mark, Marks, Name, Refusal, Malformed}
+use Rattle.cck_include.specs.Marks.{Mark, Marks, Name, Refusal, Malformed}
 use Rattle.cck_path.specs.Path.{Path, components, joined, normal, path_cmp}
 use Rattle.cck_path.specs.Timestamp.{Moment}
 use Rattle.cck_include.specs.declared.config.PreprocessorCacheModeConfig.{PreprocessorCacheModeConfig}
@@ -116,6 +116,6 @@ AsksForNone c Malformed = Unit {0}
 abbrev pub LooksForNone : Context → List ℕ → Type 0
 LooksForNone c text = (marks : List Mark) → Marks true text marks → AllByRecursion (AsksForNone c) marks
 
--- the marks of the text decide this: each text has one list of marks, by the law `HasOneList` of `cck_markers`
+-- the marks of the text decide this: each text has one list of marks, by the law `HasOneList` of `cck_include`
 abbrev pub TextDecides : Context → List ℕ → Decided → Type 0
 TextDecides c text d = (marks : List Mark) × Marks true text marks × (decided c (Some empty) marks ≡ d)

@@ -3,8 +3,8 @@ use Rattle.std.specs.Prelude.{◌≡◌, ◌≢◌, ◌⊎◌, ◌+◌, ℕ, Boo
 use Rattle.std.specs.declared.alloc.AllocError.{AllocError}
 use Rattle.cck_digest.specs.declared.key_error.KeyError.{KeyError}
 use Rattle.cck_digest.specs.declared.key_error.KeyError.TheVariants.{Memory, Marker}
-use Rattle.cck_markers.specs.Lines.{IsNamedAt, IsUnnamedTo}
-use Rattle.cck_markers.specs.Marks.{Named, Unnamed, is_system}
+use Rattle.cck_include.specs.Lines.{IsNamedAt, IsUnnamedTo}
+use Rattle.cck_include.specs.Marks.{Named, Unnamed, is_system}
 use Rattle.cck_path.specs.Path.{Path}
 use Rattle.cck_walk.specs.Decided.{Context, Digests, IsLookedFor, Refuses, after, is_looked_for, outcome}
 use Rattle.cck_walk.specs.declared.line.LineAction.{LineAction}

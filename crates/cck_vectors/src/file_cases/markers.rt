@@ -1,7 +1,7 @@
 //! Line markers and marks of texts.
 use crate::cases::{CaseError, Value, end_line, write_numbers};
 use cck_digest::{Digest, Sha256State};
-use cck_markers::{Line, Mark, Markers, read_line};
+use cck_include::{Line, Mark, Markers, read_line};
 use std::alloc::{AllocError, Global};
 
 #[derive(Clone, Copy)]

@@ -1,5 +1,5 @@
 use Rattle.std.proofs.Common.{◌≡◌, subst, map, take, rules}
-use Rattle.cck_markers.specs.Markers.{Yields, Unread}
+use Rattle.cck_include.specs.Markers.{Yields, Unread}
 use Rattle.cck_c.specs.Marks.{mark_in, unread_in}
 use Rattle.cck_c.proofs.MarkLemmas.{gives_to_end}
 use Rattle.cck_c.proofs.marks.cck_marks.Goals as goal

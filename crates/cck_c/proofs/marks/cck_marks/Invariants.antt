@@ -1,5 +1,5 @@
 use Rattle.std.proofs.Common.{◌≡◌, ◌≤◌, ◌-◌, length, map, take, drop}
-use Rattle.cck_markers.specs.Markers.{Yields}
+use Rattle.cck_include.specs.Markers.{Yields}
 use Rattle.cck_c.specs.Marks.{mark_fields, mark_in, stored_mark, unread_in}
 use Rattle.cck_c.proofs.marks.cck_marks.Given as goal
 

@@ -6,7 +6,7 @@ use Rattle.cck_cache_text.specs.Left.{IsLeft}
 use Rattle.cck_cache_rules.specs.PathTest.{Directory, Test, tests_of}
 use Rattle.cck_cache_text.specs.SearchList.{search_fields}
 use Rattle.cck_cache_text.specs.Sets.{IsSetOf, has_key}
-use Rattle.cck_markers.specs.Marks.{Mark, Marks}
+use Rattle.cck_include.specs.Marks.{Mark, Marks}
 use Rattle.cck_path.specs.Bytes.{Bytes, lists_of}
 use Rattle.cck_cache_files.specs.TestsAt.{AreTestsAt, AreTestsFor}
 use Rattle.cck_cache_files.specs.SearchedPaths.{AreSearched, HasDoubtfulDirectory}

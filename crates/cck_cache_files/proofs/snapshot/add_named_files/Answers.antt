@@ -1,9 +1,9 @@
 use Rattle.std.proofs.Common.{◌≡◌, ◌∙◌, List, [], ◌∷◌, ◌++◌, refl, sym, subst}
 use Rattle.std.proofs.lemmas.List.{append-nil}
-use Rattle.cck_markers.specs.Marks.{Mark, Name}
-use Rattle.cck_markers.specs.Markers.{MarksLeft, Unread, Yields, mark_of, unread_text}
-use Rattle.cck_markers.proofs.ItemLemmas.{gives_both}
-use Rattle.cck_markers.proofs.OneList.{one_list}
+use Rattle.cck_include.specs.Marks.{Mark, Name}
+use Rattle.cck_include.specs.Markers.{MarksLeft, Unread, Yields, mark_of, unread_text}
+use Rattle.cck_include.proofs.ItemLemmas.{gives_both}
+use Rattle.cck_include.proofs.OneList.{one_list}
 use Rattle.cck_cache_files.specs.Snapshot.{SnapshotGrows, IsNamedFile}
 use Rattle.cck_cache_files.proofs.SnapshotLemmas.{grows_by_name, grows_kept, grows_named, grows_not}
 use Rattle.cck_cache_files.proofs.StateLemmas.{KeepsStates-trans}

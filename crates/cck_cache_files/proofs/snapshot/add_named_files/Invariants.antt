@@ -1,6 +1,6 @@
 use Rattle.std.proofs.Common.{List}
-use Rattle.cck_markers.specs.Marks.{Mark}
-use Rattle.cck_markers.specs.Markers.{Yields, unread_text}
+use Rattle.cck_include.specs.Marks.{Mark}
+use Rattle.cck_include.specs.Markers.{Yields, unread_text}
 use Rattle.cck_cache_files.specs.PathStates.{KeepsStates}
 use Rattle.cck_cache_files.specs.Snapshot.{SnapshotGrows, IsNamedFile}
 use Rattle.cck_cache_files.proofs.snapshot.add_named_files.Given as goal

@@ -2,7 +2,7 @@ use Rattle.std.proofs.Common.{◌≡◌, ◌⊎◌, ◌∙◌, List, IsTrue, sub
 use Rattle.std.proofs.lemmas.Bool.{false≢true}
 use Rattle.cck_cache_text.specs.Names.{is_named}
 use Rattle.cck_cache_files.specs.Copies.{AreKnown}
-use Rattle.cck_markers.specs.Marks.{Mark, Marks}
+use Rattle.cck_include.specs.Marks.{Mark, Marks}
 use Rattle.cck_path.specs.Bytes.{Bytes}
 use Rattle.cck_cache_files.proofs.unnamed.compared_files.Goals.{else-may_import-via-then-may_import+else-not-want_no_file, else-may_import-via-else-may_import}
 use Rattle.cck_cache_files.proofs.unnamed.compared_files.Goals as goal

@@ -9,7 +9,7 @@ use Rattle.cck_cache_text.specs.Sets.{IsSetOf, has_key}
 use Rattle.cck_cache_files.specs.declared.copies.KnownFile.{KnownFile}
 use Rattle.cck_files.specs.FileMap.{FileMap}
 use Rattle.cck_files.proofs.CallsLemmas.{keeps_all}
-use Rattle.cck_markers.specs.Marks.{Mark, Marks}
+use Rattle.cck_include.specs.Marks.{Mark, Marks}
 use Rattle.cck_path.specs.Bytes.{Bytes, lists_of}
 use Rattle.cck_cache_files.specs.Unnamed.{AreCompared, AreTestsOfNames, HasUnclear}
 use Rattle.cck_cache_files.proofs.UnnamedLemmas.{by_spelling_same, fronts_same}

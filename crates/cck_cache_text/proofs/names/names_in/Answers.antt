@@ -1,9 +1,9 @@
 use Rattle.std.proofs.Common.{rules, ◌≡◌, List, [], ◌∷◌, ◌++◌, inl, inr, refl, sym, ◌∙◌, subst}
 use Rattle.std.proofs.lemmas.List.{append-nil}
-use Rattle.cck_markers.specs.Marks.{Mark, Name}
-use Rattle.cck_markers.specs.Markers.{Yields, mark_of, MarksLeft, Unread, unread_text}
-use Rattle.cck_markers.proofs.ItemLemmas.{gives_both}
-use Rattle.cck_markers.proofs.OneList.{one_list}
+use Rattle.cck_include.specs.Marks.{Mark, Name}
+use Rattle.cck_include.specs.Markers.{Yields, mark_of, MarksLeft, Unread, unread_text}
+use Rattle.cck_include.proofs.ItemLemmas.{gives_both}
+use Rattle.cck_include.proofs.OneList.{one_list}
 use Rattle.cck_cache_text.specs.Names.{AreNames}
 use Rattle.cck_cache_text.proofs.NameLemmas.{again_added, again_known, here_named, other_added, other_known}
 use Rattle.cck_cache_rules.proofs.ReadingLemmas.{equal}

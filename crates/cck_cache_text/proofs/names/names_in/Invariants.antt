@@ -1,7 +1,7 @@
 use Rattle.std.proofs.Common.{◌≡◌, ◌⊎◌, List, IsTrue, length}
 use Rattle.std.specs.Option.{is_some}
-use Rattle.cck_markers.specs.Marks.{Mark}
-use Rattle.cck_markers.specs.Markers.{Yields, unread_text}
+use Rattle.cck_include.specs.Marks.{Mark}
+use Rattle.cck_include.specs.Markers.{Yields, unread_text}
 use Rattle.cck_cache_text.specs.Names.{AreNames, first_of_name}
 use Rattle.cck_cache_text.proofs.names.names_in.Given as goal
 

@@ -1,6 +1,6 @@
 use Rattle.std.proofs.Common.{◌↔◌, IsTrue, [], true, Some, map, refl, sym}
 use Rattle.std.proofs.lemmas.Result.{IfOk-weaker}
-use Rattle.cck_markers.proofs.EachText.{has_one_list}
+use Rattle.cck_include.proofs.EachText.{has_one_list}
 use Rattle.cck_cache_text.specs.ReadFiles.{AreNamesOf, IsOpenedRule}
 use Rattle.cck_cache_text.specs.Rule.{IsRuleRead}
 use Rattle.cck_cache_text.proofs.ReadLemmas.{listed_none, listed_rule, only_names, rule_listed}

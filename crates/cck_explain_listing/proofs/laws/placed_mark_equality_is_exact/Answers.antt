@@ -1,5 +1,5 @@
 use Rattle.std.proofs.lemmas.Bool.Decides.{Decides-and}
-use Rattle.cck_markers.proofs.EqualityLemmas.{mark_decides}
+use Rattle.cck_include.proofs.MarkEqualityLemmas.{mark_decides}
 use Rattle.cck_explain_listing.proofs.PlaceEqualityLemmas.{position_decides}
 use Rattle.cck_explain_listing.proofs.laws.placed_mark_equality_is_exact.Goals as goal
 

@@ -1,7 +1,7 @@
 use Rattle.std.proofs.Common.{◌≡◌, ℕ, List, All, ◌++◌, length, map, sym, subst, ap, ap₂, ◌∙◌, append_assoc, length-append, arith}
 use Rattle.std.proofs.lemmas.List.{take-append-drop}
-use Rattle.cck_markers.specs.Items.{marks_of}
-use Rattle.cck_markers.specs.Markers.{Yields, Unread, mark_of, unread_text}
+use Rattle.cck_include.specs.Items.{marks_of}
+use Rattle.cck_include.specs.Markers.{Yields, Unread, mark_of, unread_text}
 use Rattle.cck_explain_listing.specs.Place.{IsPlacedIn, placed_at, position_after}
 use Rattle.cck_explain_listing.proofs.PlaceLemmas.{bounded, marks_next, places_next}
 use Rattle.cck_explain_listing.proofs.place.placed_marks.Goals as goal

@@ -1,5 +1,5 @@
 use Rattle.std.proofs.Common.{◌≡◌, ◌++◌, ℕ, List, All, length, map}
-use Rattle.cck_markers.specs.Markers.{Yields, mark_of, unread_text}
+use Rattle.cck_include.specs.Markers.{Yields, mark_of, unread_text}
 use Rattle.cck_explain_listing.specs.Place.{IsPlacedIn, position_after}
 use Rattle.cck_explain_listing.proofs.place.placed_marks.Given as goal
 

@@ -3,8 +3,8 @@ use Rattle.std.proofs.lemmas.Bool.{eqb-true, eqb-false}
 use Rattle.std.proofs.lemmas.List.{nil_from_length}
 use Rattle.cck_files.proofs.CallsLemmas.{calls_among}
 use Rattle.cck_files.specs.Calls.{Rose, none}
-use Rattle.cck_markers.proofs.Cuts.{slice_from}
-use Rattle.cck_markers.specs.Lines.{IsUnnamedTo}
+use Rattle.cck_include.proofs.Cuts.{slice_from}
+use Rattle.cck_include.specs.Lines.{IsUnnamedTo}
 use Rattle.jiff.specs.Words.{plain_zone}
 use Rattle.cck_walk.specs.Decided.{context_in}
 use Rattle.cck_walk.proofs.LineLemmas.{IsReadAt, goes_on, line_looked_for, stops, unnamed, unwritten}

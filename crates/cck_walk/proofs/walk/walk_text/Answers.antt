@@ -1,8 +1,8 @@
 use Rattle.std.proofs.Common.{◌≡◌, ◌⊎◌, ◌∷◌, ◌∙◌, [], Some, inl, refl, true, ap}
 use Rattle.cck_files.proofs.CallsLemmas.{keeps_all, keeps_itself, rose_earlier}
 use Rattle.cck_files.specs.Calls.{AreCalls, Rose, none}
-use Rattle.cck_markers.specs.Markers.{Yields}
-use Rattle.cck_markers.specs.Marks.{Malformed, Name, Refusal}
+use Rattle.cck_include.specs.Markers.{Yields}
+use Rattle.cck_include.specs.Marks.{Malformed, Name, Refusal}
 use Rattle.cck_walk.proofs.SeenLemmas.{all_pass}
 use Rattle.cck_walk.proofs.WalkLemmas.{accepted, at_start, calls_on, malformed, passed_on, refused, error_by_fault}
 use Rattle.cck_walk.specs.Decided.{IsLookedFor, Refuses, after, is_looked_for, outcome}

@@ -1,5 +1,0 @@
-use Rattle.cck_markers.proofs.EachText.{has_one_list}
-use Rattle.cck_markers.proofs.laws.one_list_of_marks.Goals as goal
-
-pub returns : goal.returns
-returns c = has_one_list
