@@ -12,7 +12,7 @@ use Rattle.cck_cache.specs.declared.look.Looked.{Looked}
 use Rattle.cck_cache.specs.declared.look.Looked.TheVariants.{Object, Missed}
 use Rattle.cck_cache.specs.declared.look.LookUp.{LookUp}
 use Rattle.cck_cache.specs.declared.wanted.Look.{Look}
-use Rattle.cck_cache_arguments.specs.declared.task.Outputs.{Outputs}
+use Rattle.cck_cache_options.specs.declared.task.Outputs.{Outputs}
 use Rattle.cck_cache_files.specs.PathStatuses.{AreAsRecorded}
 use Rattle.cck_cache_files.specs.declared.store_directory.Kind.{Kind}
 use Rattle.cck_cache_files.specs.declared.store_directory.Kind.TheVariants as kind

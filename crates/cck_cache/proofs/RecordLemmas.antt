@@ -23,7 +23,7 @@ use Rattle.cck_cache_rules.specs.declared.object_file.ObjectFile.{ObjectFile}
 use Rattle.cck_cache_rules.specs.declared.refusal.Refusal.{Refusal}
 use Rattle.cck_cache_files.specs.Snapshot.{ArePut, SnapshotGrows, IsNamedFile}
 use Rattle.cck_cache_files.specs.declared.request.Request.{Request}
-use Rattle.cck_cache_arguments.specs.declared.task.Compilation.{Compilation}
+use Rattle.cck_cache_options.specs.declared.task.Compilation.{Compilation}
 use Rattle.cck_files.specs.Calls.{Keeps, Rose}
 use Rattle.cck_files.specs.FileMap.{FileMap}
 use Rattle.cck_files.specs.FileState.{FileState, IsQuiet, fault_count}

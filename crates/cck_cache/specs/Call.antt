@@ -9,7 +9,7 @@ use Rattle.cck_cache_options.specs.Definition.{is_definition, macro_option}
 use Rattle.cck_cache_options.specs.declared.call.Call.{Call}
 use Rattle.cck_cache_options.specs.declared.call.Keyed.{Keyed}
 use Rattle.cck_cache_options.specs.declared.table.Class.{Class}
-use Rattle.cck_cache_arguments.specs.declared.compiler_call.CompilerCall.{CompilerCall}
+use Rattle.cck_cache_options.specs.declared.compiler_call.CompilerCall.{CompilerCall}
 use Rattle.cck_cache_files.specs.declared.request.Request.{Request}
 use Rattle.cck_path.specs.Bytes.{Bytes, lists_of}
 

@@ -34,8 +34,8 @@ use Rattle.cck_cache_store.specs.Given.{IsGiven}
 use Rattle.cck_cache_store.specs.declared.given.Given.TheVariants as given
 use Rattle.cck_cache_files.specs.declared.request.Request.{Request}
 use Rattle.cck_cache.specs.declared.wanted.Look.{Look}
-use Rattle.cck_cache_arguments.specs.declared.task.Outputs.{Outputs}
-use Rattle.cck_cache_arguments.specs.declared.task.Server.{Server}
+use Rattle.cck_cache_options.specs.declared.task.Outputs.{Outputs}
+use Rattle.cck_cache_options.specs.declared.task.Server.{Server}
 use Rattle.cck_entry.specs.Entry.{Entry, EntryText}
 use Rattle.cck_entry.specs.Statuses.{Statuses}
 use Rattle.cck_files.specs.FileMap.{FileMap}

@@ -34,8 +34,8 @@ use Rattle.cck_cache_rules.specs.Refusal.{IsRefusal}
 use Rattle.cck_cache_rules.specs.declared.refusal.Refusal.{Refusal}
 use Rattle.cck_cache_rules.specs.declared.refusal.Refusal.TheVariants.{AssemblerInclude, OtherFile, NamedFile, BaseDirectory}
 use Rattle.cck_cache_files.specs.declared.request.Request.{Request}
-use Rattle.cck_cache_arguments.specs.declared.task.Compilation.{Compilation}
-use Rattle.cck_cache_arguments.specs.declared.task.Made.{Made}
+use Rattle.cck_cache_options.specs.declared.task.Compilation.{Compilation}
+use Rattle.cck_cache_options.specs.declared.task.Made.{Made}
 use Rattle.cck_hasher.specs.declared.hasher.opening.PreprocessorKey.{PreprocessorKey}
 use Rattle.cck_files.specs.FileMap.{FileMap}
 use Rattle.cck_include.specs.Marks.{Mark, Marks}

@@ -8,10 +8,9 @@ ghost use Rattle.cck_path.specs.Bytes.{lists_of};
 
 use crate::request::push_argument;
 use anyhow::Result;
-use cck_cache_arguments::CompilerCall;
 use cck_cache_files::Request;
 use cck_cache_options::{
-    Call, Class, Keyed, dependency_path, is_definition, macro_option, object_path,
+    Call, Class, CompilerCall, Keyed, dependency_path, is_definition, macro_option, object_path,
     push_preprocessor_arguments, push_word,
 };
 use std::alloc::{AllocError, Global};

@@ -18,10 +18,10 @@ use crate::server_key::server_key;
 use crate::wanted::Look;
 use anyhow::{Context, Result};
 use c_cache_keys::{PreprocessorKey, SnapshotRequest, look_up, preprocessor_key};
-use cck_cache_arguments::Outputs;
 use cck_cache_files::{
     ENTRY_FILES, Kind, Request, StoreDirectory, entry_name, first_failing, unchanged_statuses,
 };
+use cck_cache_options::Outputs;
 use cck_cache_rules::{EntryFile, ObjectFile, PathStatus, entry_in, object_in};
 use cck_cache_store::{Given, Peer, entry_view, given_file};
 use cck_files::MapFiles;

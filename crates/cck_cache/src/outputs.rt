@@ -3,8 +3,8 @@ ghost use Rattle.std.specs.Prelude.{◌≡◌};
 ghost use Rattle.cck_cache.specs.Outputs.{has_outputs};
 
 use anyhow::{Context, Result};
-use cck_cache_arguments::Outputs;
 use cck_cache_files::StoreDirectory;
+use cck_cache_options::Outputs;
 use cck_cache_rules::ObjectFile;
 use std::io::Write;
 use std::rt::Files;

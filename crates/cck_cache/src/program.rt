@@ -20,12 +20,11 @@ use crate::unpack::{Taken, unpack};
 use crate::wanted::Look;
 use crate::why::print_why;
 use anyhow::{Context, Result, bail};
-use cck_cache_arguments::{
-    Action, Compilation, CompilerCall, Explanation, Outputs, Packed, Server, Source, StoreAction,
-    Task, task_of,
-};
 use cck_cache_files::{Kind, Request, StoreDirectory, entry_name};
-use cck_cache_options::{CLANG, Call, GCC, NATIVE, Row, rows_of};
+use cck_cache_options::{
+    Action, CLANG, Call, Compilation, CompilerCall, Explanation, GCC, NATIVE, Outputs, Packed, Row,
+    Server, Source, StoreAction, Task, rows_of, task_of,
+};
 use cck_cache_store::{
     Peer, RemotePeer, StreamPeer, address_in, clear_store, limit_shares, print_files, print_stats,
     prune_store, verify_store,

@@ -1,8 +1,8 @@
 //! The programs that the compiler of a call runs.
 use crate::environment::Environment;
 use crate::judge::Passed;
-use cck_cache_arguments::{Action, CompilerCall, Programs};
 use cck_cache_files::{KeptPrograms, kept_programs};
+use cck_cache_options::{Action, CompilerCall, Programs};
 use std::alloc::AllocError;
 use std::rt::Files;
 

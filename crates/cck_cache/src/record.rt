@@ -23,12 +23,12 @@ use anyhow::Result;
 use c_cache_keys::{
     PreprocessorKey, RecordedEntry, Recording, SnapshotRequest, preprocessor_key, record_text,
 };
-use cck_cache_arguments::{Compilation, Made};
 use cck_cache_files::{
     Absence, Kind, PathStates, Preprocessed, Request, StoreDirectory, Tested, TextStatuses,
     Unnamed, absence_of, add_directory_statuses, add_named_files, all_tests, compared_paths,
     entry_name, may_have_copies, tested_by, text_statuses, unnamed_by,
 };
+use cck_cache_options::{Compilation, Made};
 use cck_cache_rules::{
     EntryFile, Known, ObjectFile, PathStatus, PathTest, Refusal, bases_of, refusal_of, shows_base,
 };

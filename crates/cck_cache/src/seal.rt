@@ -1,6 +1,6 @@
 //! Makes a value of a server.
 use anyhow::Result;
-use cck_cache_arguments::Seal;
+use cck_cache_options::Seal;
 use cck_cache_rules::{compress_value, sign_value};
 use cck_cache_store::read_key;
 use cck_util::Sha256State;

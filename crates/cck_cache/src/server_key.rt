@@ -1,6 +1,6 @@
 //! The key of signatures of a server.
 use anyhow::Result;
-use cck_cache_arguments::Server;
+use cck_cache_options::Server;
 use cck_cache_store::read_key;
 use std::rt::Files;
 

@@ -2,8 +2,8 @@
 use crate::outputs::{has_outputs, write_outputs};
 use crate::server_key::server_key;
 use anyhow::{Context, Result};
-use cck_cache_arguments::{Packed, Source};
 use cck_cache_files::{Kind, StoreDirectory};
+use cck_cache_options::{Packed, Source};
 use cck_cache_rules::object_in;
 use cck_cache_store::{Given, Peer, given_file};
 use std::fs;

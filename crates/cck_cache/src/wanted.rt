@@ -1,6 +1,6 @@
 //! What a look-up is for.
-use cck_cache_arguments::{Outputs, Server};
 use cck_cache_files::Request;
+use cck_cache_options::{Outputs, Server};
 
 /// What a look-up is for.
 pub struct Look<'a> {

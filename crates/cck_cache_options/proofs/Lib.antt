@@ -10,3 +10,4 @@ pub mod RunLemmas
 pub mod StateLemmas
 pub mod StepLemmas
 pub mod TableLemmas
+mod TaskLemmas

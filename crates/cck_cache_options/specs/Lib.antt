@@ -3,7 +3,10 @@ pub mod Definition
 pub mod Laws
 pub mod Parts
 pub mod Paths
+pub mod Programs
 pub mod Quote
 pub mod Reason
 pub mod Runs
+pub mod Stamp
 pub mod Table
+pub mod Task

@@ -1,4 +1,3 @@
-pub mod EqualityLemmas
 pub mod ExecutableLemmas
 pub mod ExpandLemmas
 pub mod FileLemmas

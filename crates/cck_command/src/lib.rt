@@ -42,7 +42,6 @@
 
 mod calls;
 mod failed;
-pub mod laws;
 mod mini;
 mod mini_compiler;
 mod printing;

@@ -21,7 +21,7 @@ use std::collections::BTreeMap;
 /// It is of GCC's family, compiles C alone, and has neither a version nor an assembler of its own.
 /// The first argument of a command line is its input, and is preprocessed already if it ends in
 /// `.i`; all others are common arguments. Its output `obj` is `out.o`.
-#[derive(Debug, Drop)]
+#[derive(Drop)]
 pub struct MiniCompiler {
     /// The offset of the zone that it prints times in, in seconds east of UTC.
     pub zone_offset: i32,

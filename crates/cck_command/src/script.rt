@@ -23,13 +23,13 @@ use cck_script::Command;
 use std::alloc::{AllocError, Global};
 
 /// A script, read.
-#[derive(Debug, Drop)]
+#[derive(Drop)]
 pub struct Script {
     commands: Vec<Command>,
 }
 
 /// What holds for the whole run of a script, wherever its line is.
-#[derive(Debug, Drop)]
+#[derive(Drop)]
 pub struct RunOptions {
     /// The offset of the zone, in seconds east of UTC: less than a day. It is 0 where no line says
     /// one.

@@ -1,5 +1,4 @@
 pub mod BufferLemmas
-pub mod EqualityLemmas
 pub mod JudgedLemmas
 pub mod ListingLemmas
 pub mod NotedLemmas

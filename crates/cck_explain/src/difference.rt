@@ -18,7 +18,7 @@ use cck_include::{IncludeRef, JudgeContext};
 use std::alloc::{AllocError, Global};
 
 /// How a file differs from what was recorded of it.
-#[derive(Debug, Clone, Copy, PartialEq, Eq)]
+#[derive(Clone, Copy)]
 pub enum Difference {
     /// There is no regular file that can be read.
     Missing,

@@ -9,7 +9,7 @@ use thiserror::Error;
 pub(crate) const OUT_OF_MEMORY: &str = "out of memory";
 
 /// Why a listing is not complete.
-#[derive(Debug, Clone, Copy, PartialEq, Eq, Error)]
+#[derive(Debug, Clone, Copy, Error)]
 pub enum ExplainError {
     /// An allocation failed, or what is listed has 2^64 bytes or more.
     #[error("{text}", text = OUT_OF_MEMORY)]

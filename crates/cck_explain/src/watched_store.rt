@@ -7,7 +7,6 @@ use std::marker::Model;
 use std::mem;
 
 /// A get or a put of a store, and its result.
-#[derive(Debug)]
 pub enum WatchedCall {
     /// A get under this key, and the bytes that it returned, if there were any.
     Get {

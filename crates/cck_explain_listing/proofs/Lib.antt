@@ -1,9 +1,7 @@
 pub mod ChecksumLemmas
 pub mod CutLineLemmas
 pub mod EscapeLemmas
-pub mod FaultEqualityLemmas
 pub mod FaultLemmas
 pub mod NoEntryLemmas
-pub mod PlaceEqualityLemmas
 pub mod PlaceLemmas
 pub mod RestLemmas

@@ -9,7 +9,7 @@ use cck_entry::PreprocessorCacheEntry;
 use std::alloc::{AllocError, Global};
 
 /// Why bytes have no listing.
-#[derive(Debug, Clone, Copy, PartialEq, Eq)]
+#[derive(Clone, Copy)]
 pub enum EntryError {
     /// An allocation failed.
     Memory,

@@ -4,7 +4,7 @@
 //! - [`entry_listing`] lists an entry of the store, or says why bytes are none.
 //! - [`marker_lines`] lists the line markers of a preprocessed text.
 //! - [`push_escaped`], [`push_quoted`] and [`checksum`] show bytes in such lines, and [`push_moment`] a time.
-//! - [`laws`] has what is proved of the definitions alone, and what `==` means for the types.
+//! - [`laws`] has what is proved of the definitions alone.
 //!
 //! # Cuts
 //!

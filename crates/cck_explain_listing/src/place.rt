@@ -6,7 +6,7 @@ use cck_include::{Mark, read_item};
 use std::alloc::{AllocError, Global};
 
 /// A place in a text.
-#[derive(Debug, Clone, Copy, PartialEq, Eq)]
+#[derive(Clone, Copy)]
 pub struct Position {
     /// The line, from 1 on.
     pub line: usize,
@@ -44,7 +44,7 @@ impl Position {
 }
 
 /// A mark and where it is.
-#[derive(Debug, Clone, Copy, PartialEq, Eq)]
+#[derive(Clone, Copy)]
 pub struct PlacedMark<'a> {
     /// The place of the marker, or of the inclusion.
     pub position: Position,

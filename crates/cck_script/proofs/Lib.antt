@@ -1,4 +1,3 @@
-pub mod EqualityLemmas
 pub mod FileLemmas
 pub mod SurroundingsLemmas
 pub mod VariableLemmas

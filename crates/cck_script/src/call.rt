@@ -10,7 +10,7 @@ use cck_path::Timestamp;
 
 /// A call that a line asks for, over the files and variables as the lines before it left them. Its
 /// working directory is [`WORKING_DIRECTORY`](crate::WORKING_DIRECTORY).
-#[derive(Debug, Clone, Copy)]
+#[derive(Clone, Copy)]
 pub struct ScriptCall<'a> {
     /// Its call time.
     pub moment: Timestamp,

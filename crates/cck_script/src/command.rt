@@ -2,7 +2,7 @@
 use cck_path::Timestamp;
 
 /// What a line of a script says. Words and texts are unescaped.
-#[derive(Debug, PartialEq, Eq, Drop)]
+#[derive(Drop)]
 pub enum Command {
     /// The run's zone.
     Zone {

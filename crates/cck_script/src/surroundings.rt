@@ -54,7 +54,7 @@ pub fn first_files(alloc: Global) -> Result<MapFiles, AllocError>
 /// executable's path, the executable is there as at first. The canonical path of each path is the
 /// path itself without its `.` and `..`. A variable has the place where it was set first since the
 /// last line `clear`, and the value that it was given last.
-#[derive(Debug, Drop)]
+#[derive(Drop)]
 pub struct Surroundings {
     /// The files, on which no call is armed to fail.
     pub files: MapFiles,

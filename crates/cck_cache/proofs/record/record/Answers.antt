@@ -4,7 +4,7 @@ use Rattle.cck_cache.specs.Input.{IsCalm}
 use Rattle.cck_cache.specs.Record.{IsJudgedByReading, IsOutcome, IsOutcomeOver}
 use Rattle.cck_cache.specs.declared.record.Outcome.{Outcome}
 use Rattle.cck_cache_rules.specs.declared.refusal.Refusal.{Refusal}
-use Rattle.cck_cache_arguments.specs.declared.task.Made.{Made}
+use Rattle.cck_cache_options.specs.declared.task.Made.{Made}
 use Rattle.cck_cache.proofs.RecordLemmas.{outcome_all}
 use Rattle.cck_cache.proofs.record.record.Goals as goal
 

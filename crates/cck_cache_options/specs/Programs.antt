@@ -2,8 +2,8 @@
 use Rattle.std.specs.Prelude.{◌≡◌, Some, None, codes}
 use Rattle.clap.specs.Matches.{first_value}
 use Rattle.clap.specs.declared.parser.matches.Found.{Found}
-use Rattle.cck_cache_arguments.specs.declared.compiler_call.Programs.{Programs}
-use Rattle.cck_cache_arguments.specs.declared.compiler_call.Programs.TheVariants.{Driver, Paths}
+use Rattle.cck_cache_options.specs.declared.compiler_call.Programs.{Programs}
+use Rattle.cck_cache_options.specs.declared.compiler_call.Programs.TheVariants.{Driver, Paths}
 
 -- the words have their paths, or not these but the compiler as it is called
 abbrev pub HasPrograms : Found → Programs → Type 0

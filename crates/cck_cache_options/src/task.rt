@@ -2,7 +2,7 @@
 ghost use Rattle.std.specs.Prelude.{◌≡◌, MatchOption, ℕ, ℤ, None, Option, codes};
 ghost use Rattle.std.specs.Option.{option_map};
 ghost use Rattle.clap.specs.Matches.{first_value, found_of};
-ghost use Rattle.cck_cache_arguments.specs.Task.{IsExpanded, IsMade, IsOutputs, IsPacked, IsServer, IsSince, IsSize, IsSource, MadeWords, OutputWords, PackedWords, SourceWords, made_words, output_words, packed_words, server_words, source_words};
+ghost use Rattle.cck_cache_options.specs.Task.{IsExpanded, IsMade, IsOutputs, IsPacked, IsServer, IsSince, IsSize, IsSource, MadeWords, OutputWords, PackedWords, SourceWords, made_words, output_words, packed_words, server_words, source_words};
 
 use crate::command_line::program;
 use crate::compiler_call::{CompilerCall, call_of};

@@ -1,7 +1,7 @@
 use Rattle.std.proofs.Common.{rules, ◌≡◌, Some, codes}
 use Rattle.clap.specs.Matches.{first_value, found_of}
-use Rattle.cck_cache_arguments.proofs.TaskLemmas.{since_by}
-use Rattle.cck_cache_arguments.proofs.task.since_of.Goals as goal
+use Rattle.cck_cache_options.proofs.TaskLemmas.{since_by}
+use Rattle.cck_cache_options.proofs.task.since_of.Goals as goal
 
 pub returns : goal.returns
 returns c =

@@ -1,7 +1,7 @@
 //! The call of a compiler that words have.
 ghost use Rattle.std.specs.Prelude.{MatchOption};
 ghost use Rattle.clap.specs.Matches.{found_of};
-ghost use Rattle.cck_cache_arguments.specs.Programs.{HasNoPrograms, HasPrograms};
+ghost use Rattle.cck_cache_options.specs.Programs.{HasNoPrograms, HasPrograms};
 
 use clap::ArgMatches;
 use std::alloc::{AllocError, Global};

@@ -1,6 +1,6 @@
 //! The time that a look-up printed.
 ghost use Rattle.std.specs.Prelude.{MatchOption, ℕ, ℤ};
-ghost use Rattle.cck_cache_arguments.specs.Stamp.{IsStamp};
+ghost use Rattle.cck_cache_options.specs.Stamp.{IsStamp};
 
 use cck_path::Timestamp;
 

@@ -4,8 +4,8 @@ use Rattle.std.specs.Prelude.{MatchOption}
 use Rattle.std.proofs.lemmas.Option.{same_Some}
 use Rattle.clap.specs.Matches.{first_value}
 use Rattle.clap.specs.declared.parser.matches.Found.{Found}
-use Rattle.cck_cache_arguments.specs.Stamp.{IsStamp}
-use Rattle.cck_cache_arguments.specs.Task.{IsSince}
+use Rattle.cck_cache_options.specs.Stamp.{IsStamp}
+use Rattle.cck_cache_options.specs.Task.{IsSince}
 
 pub since_by : {T : Type 0} (found : Found) (text : List ℕ) (seconds : T → ℤ) (nanoseconds : T → ℕ) (time : Option T) → first_value found (codes "since") ≡ Some text
     → MatchOption time ((s : ℤ) (n : ℕ) → IsStamp text s n → ⊥) (λ t. IsStamp text (seconds t) (nanoseconds t))

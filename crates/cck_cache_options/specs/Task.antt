@@ -4,13 +4,13 @@ use Rattle.std.specs.Option.{option_map}
 use Rattle.std.specs.Str.Parse.{IsNumeral, digits_value, without_leading_plus}
 use Rattle.clap.specs.Matches.{first_value}
 use Rattle.clap.specs.declared.parser.matches.Found.{Found}
-use Rattle.cck_cache_arguments.specs.Stamp.{IsStamp}
-use Rattle.cck_cache_arguments.specs.declared.task.Made.{Made}
-use Rattle.cck_cache_arguments.specs.declared.task.Outputs.{Outputs}
-use Rattle.cck_cache_arguments.specs.declared.task.Packed.{Packed}
-use Rattle.cck_cache_arguments.specs.declared.task.Server.{Server}
-use Rattle.cck_cache_arguments.specs.declared.task.Source.{Source}
-use Rattle.cck_cache_arguments.specs.declared.task.Source.TheVariants.{Path, Server as ServerSource}
+use Rattle.cck_cache_options.specs.Stamp.{IsStamp}
+use Rattle.cck_cache_options.specs.declared.task.Made.{Made}
+use Rattle.cck_cache_options.specs.declared.task.Outputs.{Outputs}
+use Rattle.cck_cache_options.specs.declared.task.Packed.{Packed}
+use Rattle.cck_cache_options.specs.declared.task.Server.{Server}
+use Rattle.cck_cache_options.specs.declared.task.Source.{Source}
+use Rattle.cck_cache_options.specs.declared.task.Source.TheVariants.{Path, Server as ServerSource}
 
 -- where the parts of an object file are written: a path for the object, and one for the dependency file, if one is given
 pub record OutputWords : Type 0 where

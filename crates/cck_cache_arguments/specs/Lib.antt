@@ -1,3 +1,0 @@
-pub mod Programs
-pub mod Stamp
-pub mod Task

@@ -1,6 +1,0 @@
-use denote.Enum.Bare.{same_true, true_same}
-use Rattle.cck_command.specs.contracts.mini.error.PrintError.{the_type}
-use Rattle.cck_command.proofs.laws.print_error_equality_is_exact.Goals as goal
-
-pub returns : goal.returns
-returns c = λ a b. (same_true the_type tt a b, true_same the_type a b)
