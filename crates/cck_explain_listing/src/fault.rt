@@ -17,7 +17,7 @@ const SHORTEST_RESULT: usize = 16;
 const NANOS_IN_A_SECOND: u32 = 1_000_000_000;
 
 /// Why bytes are no entry.
-#[derive(Clone, Copy)]
+#[derive(Debug, Clone, Copy)]
 pub enum Cause {
     /// The first byte is not the format's number.
     UnknownFormat,
@@ -54,7 +54,7 @@ impl Cause {
 }
 
 /// Where bytes stop being an entry, and why.
-#[derive(Clone, Copy)]
+#[derive(Debug, Clone, Copy)]
 pub struct Fault {
     /// The offset of the field that is wrong.
     pub offset: usize,
