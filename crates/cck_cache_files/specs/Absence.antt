@@ -1,5 +1,5 @@
 -- the tests of paths that must hold for a recorded key
-use Rattle.std.specs.Prelude.{◌≡◌, ◌⊎◌, ◌++◌, true, List, Contains, Some, None, IsTrue, map}
+use Rattle.std.specs.Prelude.{◌≡◌, ◌⊎◌, ◌++◌, true, List, Contains, Option, Some, None, IsTrue, map}
 use Rattle.cck_cache_files.specs.declared.absence.Absence.{Absence}
 use Rattle.cck_cache_files.specs.declared.absence.Absence.TheVariants.{Tests, Refused}
 use Rattle.cck_cache_files.specs.SearchedPaths.{AreSearched, HasDoubtfulDirectory}
@@ -22,6 +22,14 @@ use Rattle.cck_path.specs.Text.{join_path}
 abbrev pub AreLeft : Bytes → List Mark → List Bytes → Type 0
 AreLeft directory marks fronts = (front : Bytes) → (Contains fronts front → IsLeft directory marks front) × (IsLeft directory marks front → Contains fronts front)
 
+-- These tests, and after them those of the directories that names leave, and of the links on the way to system headers
+pub record AreTestsAfter (directory text : Bytes) (first tests : List Test) : Type 0 where
+  pub fronts : List Bytes
+  pub fronts_are : (marks : List Mark) → Marks true text marks → AreLeft directory marks fronts
+  pub links : LinkTests
+  pub links_are : (marks : List Mark) → Marks true text marks → ArePlaced (IsPathOf directory (λ name. IsTrue (is_system_name marks name))) links
+  pub tests_are : tests ≡ ((first ++ map Directory fronts) ++ tests_of links.plain.items) ++ tests_of links.real.items
+
 -- The tests of the paths of a text and of the headers that it and these arguments include, by what the compiler printed of its directories. The list of directories can be read, each system header is in one
 -- of them, and no path and no directory is in doubt.
 pub record AreTestsOf (states : PathStates) (directory text : Bytes) (arguments : List Bytes) (printed : Bytes) (tests : List Test) : Type 0 where
@@ -32,11 +40,7 @@ pub record AreTestsOf (states : PathStates) (directory text : Bytes) (arguments 
   pub are_searched : AreSearched directory search searched
   pub earlier : List Test
   pub earlier_are : (marks : List Mark) → Marks true text marks → AreTestsAt states directory (IsAbsentName marks text arguments search) earlier
-  pub fronts : List Bytes
-  pub fronts_are : (marks : List Mark) → Marks true text marks → AreLeft directory marks fronts
-  pub links : LinkTests
-  pub links_are : (marks : List Mark) → Marks true text marks → ArePlaced (IsPathOf directory (λ name. IsTrue (is_system_name marks name))) links
-  pub tests_are : tests ≡ (((searched ++ earlier) ++ map Directory fronts) ++ tests_of links.plain.items) ++ tests_of links.real.items
+  pub after : AreTestsAfter directory text (searched ++ earlier) tests
 
 -- a path of the text is in doubt
 pub record HasDoubtfulPath (states : PathStates) (directory text : Bytes) (arguments : List Bytes) (printed : Bytes) : Type 0 where
@@ -59,6 +63,11 @@ pub record HasUnknownHeader (text : Bytes) (arguments : List Bytes) (printed : B
 -- a system header is named, of which it is not known where it is
 abbrev pub HasUnknownLink : Bytes → Type 0
 HasUnknownLink text = (marks : List Mark) → Marks true text marks → (name : Bytes) × IsTrue (is_system_name marks name)
+
+-- tests after these, or none where that is so
+abbrev pub AreTestsAfterIfKnown : Bytes → Bytes → List Test → Option (List Test) → Type 0
+AreTestsAfterIfKnown directory text first None = HasUnknownLink text
+AreTestsAfterIfKnown directory text first (Some tests) = AreTestsAfter directory text first tests
 
 abbrev pub IsRefusedByPath : PathStates → Bytes → Bytes → List Bytes → Bytes → Refusal → Type 0
 IsRefusedByPath states directory text arguments printed NoSearchList = IsSearchList printed None

@@ -1,6 +1,7 @@
 //! The tests of paths that must hold for a recorded key.
 ghost use Rattle.std.specs.Prelude.{◌≡◌, ◌++◌, IfOk, IsOkUnless, OnOk, map};
-ghost use Rattle.cck_cache_files.specs.Absence.{IsAbsence};
+ghost use Rattle.std.specs.Option.{option_map};
+ghost use Rattle.cck_cache_files.specs.Absence.{AreTestsAfterIfKnown, IsAbsence};
 ghost use Rattle.cck_cache_rules.specs.PathTest.{Directory, tests_of};
 ghost use Rattle.cck_cache_files.specs.PathStates.{KeepsStates};
 ghost use Rattle.cck_path.specs.Bytes.{lists_of};
@@ -82,14 +83,33 @@ pub fn absence_of<R: Files + AllocGlobal>(
     let Some(searched) = searched_tests(rt, directory.as_bytes(), &search)? else {
         return Ok(Absence::Refused(Refusal::EarlierPath));
     };
-    let mut tests = all_tests(searched, earlier)?;
-    let left = left_directories(alloc, directory.as_bytes(), text)?;
+    match tests_after(rt, preprocessed, all_tests(searched, earlier)?)? {
+        None => Ok(Absence::Refused(Refusal::NamedFile)),
+        Some(tests) => Ok(Absence::Tests(tests)),
+    }
+}
+
+// These tests, and after them those of the directories that a name of the text leaves by `..` and of the links on
+// the way to system headers. `None` where it is not known where a system header is.
+fn tests_after<R: Files + AllocGlobal>(
+    rt: &R,
+    preprocessed: &Preprocessed<'_>,
+    first: Vec<PathTest>,
+) -> Result<Option<Vec<PathTest>>, UtilError>
+    ensures tests { IfOk result (λ tests. AreTestsAfterIfKnown preprocessed.now.request.now.directory.now
+        preprocessed.now.text.now (tests_of first.items) (option_map (λ all. tests_of all.items) tests)) }
+    ensures errors { IsOkUnless result UtilError.Memory }
+{
+    let alloc = rt.alloc();
+    let directory = preprocessed.request.directory.as_bytes();
+    let mut tests = first;
+    let left = left_directories(alloc, directory, preprocessed.text)?;
     add_directories(alloc, &mut tests, &left)?;
-    let systems = system_names(alloc, text)?;
-    let Some(links) = link_tests(rt, directory.as_bytes(), &systems, preprocessed.renames)? else {
-        return Ok(Absence::Refused(Refusal::NamedFile));
+    let systems = system_names(alloc, preprocessed.text)?;
+    let Some(links) = link_tests(rt, directory, &systems, preprocessed.renames)? else {
+        return Ok(None);
     };
     let LinkTests { plain, real } = links;
     let tests = all_tests(tests, plain)?;
-    Ok(Absence::Tests(all_tests(tests, real)?))
+    Ok(Some(all_tests(tests, real)?))
 }

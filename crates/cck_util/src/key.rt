@@ -1,8 +1,10 @@
 //! The key of an object.
-ghost use Rattle.std.specs.Prelude.{◌≡◌, IfOk, IsOkUnless, string_bytes, map};
+ghost use Rattle.std.specs.Prelude.{◌≡◌, ◌++◌, ◌∷◌, [], IfOk, IsOkUnless, string_bytes, map};
 ghost use Rattle.std.specs.Option.{option_map};
+ghost use Rattle.cck_digest.specs.Frames.{frame};
 ghost use Rattle.cck_path.specs.Bytes.{lists_of, variables_of};
-ghost use Rattle.cck_util.specs.Key.{object_key, plain_params};
+ghost use Rattle.cck_util.specs.Key.{cache_version, flag_byte, object_key, plain_params};
+ghost use Rattle.cck_util.specs.Language.{language_name};
 
 use crate::Language;
 use crate::frames::{hash_argument_list, hash_option, hash_text_list};
@@ -174,16 +176,25 @@ impl<'a> HashKeyParams<'a> {
         ensures errors { IsOkUnless result UtilError.Memory }
     {
         let output = strip_basedirs(alloc, self.preprocessor_output, self.basedirs)?;
-        let mut digest = Digest::<H>::new();
-        hash_len_prefixed(&mut digest, CACHE_VERSION);
-        hash_len_prefixed(&mut digest, self.compiler_digest.as_bytes());
-        digest.update(&[u8::from(self.plusplus)]);
-        hash_len_prefixed(&mut digest, self.language.as_str().as_bytes());
+        let mut digest = self.begun::<H>();
         hash_argument_list(alloc, &mut digest, self.arguments, self.basedirs)?;
         hash_text_list(&mut digest, self.extra_hashes);
         hash_option(&mut digest, self.assembler_digest);
         hash_object_variables(&mut digest, self.env_vars);
         hash_len_prefixed(&mut digest, output.as_slice());
         digest.finish(alloc)
+    }
+
+    // Returns a digest that was fed what is hashed first: the version, the compiler and the language.
+    fn begun<H: HashState>(&self) -> Digest<H>
+        ensures { H.holds result (frame cache_version ++ frame self.now.compiler_digest
+            ++ flag_byte self.now.plusplus ∷ [] ++ frame (language_name self.now.language)) }
+    {
+        let mut digest = Digest::<H>::new();
+        hash_len_prefixed(&mut digest, CACHE_VERSION);
+        hash_len_prefixed(&mut digest, self.compiler_digest.as_bytes());
+        digest.update(&[u8::from(self.plusplus)]);
+        hash_len_prefixed(&mut digest, self.language.as_str().as_bytes());
+        digest
     }
 }
