@@ -30,8 +30,8 @@ in_turn() {
 in_turn aaaa_detail/d .hpp > "$folder/begin_alike.i"
 in_turn d /aaaa_detail.hpp > "$folder/end_alike.i"
 
-build_program walk 'cck_digest cck_path cck_files cck_include cck_walk' \
-    'cck_digest cck_path cck_files cck_include cck_walk memchr jiff anyhow'
+build_program walk 'cck_digest cck_path cck_strip cck_files cck_util cck_include cck_entry cck_compiler cck_hasher' \
+    'cck_digest cck_path cck_files cck_include cck_hasher memchr jiff anyhow'
 for text in headers dense rising falling begin_alike end_alike; do
     head -c 4194304 "$folder/$text.i" > "$folder/part.i"
     echo "$text.i"

@@ -13,11 +13,12 @@ done >"$room/main.c"
 (cd "$room" && gcc -E main.c -o main.i)
 
 mkdir -p "$room/work/crates/walk_test/src"
-for crate in cck_digest cck_path cck_files cck_include cck_walk; do
+for crate in cck_digest cck_path cck_strip cck_files cck_util cck_include cck_entry cck_compiler \
+    cck_hasher; do
     cp -r "$top/crates/$crate" "$room/work/crates/"
     grep "^$crate:" "$top/crates.txt" >>"$room/work/crates.txt"
 done
-echo 'walk_test: cck_digest cck_path cck_files cck_include cck_walk jiff anyhow' \
+echo 'walk_test: cck_digest cck_path cck_files cck_include cck_hasher jiff anyhow' \
     >>"$room/work/crates.txt"
 cp "$top/tests/walk/main.rt.in" "$room/work/crates/walk_test/src/main.rt"
 cp "$top/HANDLES" "$room/work/"

@@ -7,8 +7,8 @@ use Rattle.cck_include.proofs.OneList.{one_list}
 use Rattle.cck_include.specs.Marks.{Mark, Marks}
 use Rattle.cck_path.specs.Bytes.{Bytes}
 use Rattle.cck_path.specs.Path.{Path, components, path_cmp}
-use Rattle.cck_walk.proofs.WalkLemmas.{none_asked}
-use Rattle.cck_walk.specs.Decided.{IsAskedFor, AsksForNone, Context, LooksForNone, decided, is_angled, is_known, is_looked_for, is_passed, path_named}
+use Rattle.cck_hasher.proofs.WalkLemmas.{none_asked}
+use Rattle.cck_hasher.specs.Decided.{IsAskedFor, AsksForNone, Context, LooksForNone, decided, is_angled, is_known, is_looked_for, is_passed, path_named}
 use Rattle.c_cache_keys.proofs.MarkExamples.{inclusion_marks, missing_header_marks, short_text_marks, system_header_marks}
 
 module _ (c : Context) where

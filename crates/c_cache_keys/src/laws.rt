@@ -16,12 +16,14 @@ pub use cck_compiler::laws::{
 };
 use cck_digest::HashState;
 pub use cck_digest::laws::{key_error_equality_is_exact, preprocess_error_equality_is_exact};
+pub use cck_hasher::laws::{
+    line_action_equality_is_exact, nothing_is_asked, walk_equality_is_exact,
+};
 pub use cck_include::laws::{
     line_equality_is_exact, mark_equality_is_exact, nothing_after_the_last_mark, one_list_of_marks,
     one_name_at_one_place,
 };
 pub use cck_util::laws::store_error_equality_is_exact;
-pub use cck_walk::laws::{line_action_equality_is_exact, nothing_is_asked, walk_equality_is_exact};
 
 /// A run over one list and then over another is a run over both lists joined, and conversely.
 pub fn runs_join<H: HashState, I: CCompilerImpl, S: PreprocessorStore>()

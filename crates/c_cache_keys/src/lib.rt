@@ -34,7 +34,7 @@
 //! of calls.
 //!
 //! The calls on one compilation, the interfaces of compilers and stores, and the walk are re-exported from
-//! `cck_hasher`, `cck_compiler`, `cck_util` and `cck_walk`. There are two stores: [`MapStore`] in memory, and [`EmptyStore`],
+//! `cck_hasher`, `cck_compiler` and `cck_util`. There are two stores: [`MapStore`] in memory, and [`EmptyStore`],
 //! which keeps nothing. All else that a caller names, such as hash functions, files, times and
 //! options, is in [`cck_util`] and [`cck_entry`], which are re-exported whole. Zones are those of
 //! `jiff`.
@@ -94,6 +94,7 @@ mod additions;
 mod c_compiler;
 mod calls;
 mod compiler;
+mod hash_key;
 pub mod keeping_laws;
 mod key;
 mod last_put;
@@ -110,16 +111,16 @@ pub use calls::{Call, run_calls};
 pub use cck_compiler::{
     ArtifactDescriptor, CCompilerImpl, CCompilerKind, ColorMode, CompilerArguments, KeyError,
     ParsedArguments, PreprocessError, PreprocessorKeyRequest, hashed_directory,
-    preprocessor_cache_entry_hash_key,
 };
 pub use cck_entry;
-pub use cck_hasher::{CCompilerHasher, CacheControl, Conditions, HashResult, PreprocessorKey};
+pub use cck_hasher::{
+    CCompilerHasher, CacheControl, Conditions, HashResult, LineAction, PreprocessorKey, Records,
+    Walk, process_preprocessed_file, process_preprocessor_line,
+};
 pub use cck_util;
 pub use cck_util::{EmptyStore, MapStore, PreprocessorStore, StoreError, one_more};
-pub use cck_walk::{
-    LineAction, Records, Walk, process_preprocessed_file, process_preprocessor_line,
-};
 pub use compiler::ExternalCompiler;
+pub use hash_key::preprocessor_cache_entry_hash_key;
 pub use key::preprocessor_key;
 pub use looking::look_up;
 pub use recordings::{RecordedEntry, Recording, record_text};

@@ -31,8 +31,7 @@
 //! The headers that the input includes are not known at this point. They are in the entry that the
 //! store holds under the key.
 //!
-//! - [`preprocessor_cache_entry_hash_key`] returns the key, and [`PreprocessorKeyRequest::compute`] that
-//!   of an input whose recorded digest is known.
+//! - [`PreprocessorKeyRequest::compute`] returns the key.
 //! - [`FORMAT_VERSION`](cck_include::FORMAT_VERSION), the format of entries, is part of the key material.
 #![tactic(auto)]
 
@@ -49,6 +48,4 @@ pub use cck_digest::{KeyError, PreprocessError};
 pub use compiler::{CCompilerImpl, CCompilerKind, CompilerArguments};
 pub use extra_files::add_extra_files;
 pub use lists::{copy_lists, copy_text, push_copies};
-pub use preprocessor_key::{
-    PreprocessorKeyRequest, hashed_directory, preprocessor_cache_entry_hash_key,
-};
+pub use preprocessor_key::{PreprocessorKeyRequest, hashed_directory};

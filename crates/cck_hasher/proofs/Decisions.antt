@@ -9,9 +9,9 @@ use Rattle.cck_files.specs.FileMap.{FileNode, file_at, folder_at}
 use Rattle.cck_include.specs.Marks.{Mark, Name, Refusal, Malformed}
 use Rattle.cck_path.specs.Bytes.{Bytes}
 use Rattle.cck_path.specs.Path.{Path, components, path_cmp, path_cmp_total}
-use Rattle.cck_walk.specs.Decided.{Accepts, Decided, Digests, IsRefused, Outcome, Passes, Records, Refuses, after, decided, is_known, is_passed, outcome, path_outcome, judgement_outcome}
-use Rattle.cck_walk.specs.Decided as decision
-use Rattle.cck_walk.specs.Judgement.{Judgement, Folder, Regular, Bad, judgement_at}
+use Rattle.cck_hasher.specs.Decided.{Accepts, Decided, Digests, IsRefused, Outcome, Passes, Records, Refuses, after, decided, is_known, is_passed, outcome, path_outcome, judgement_outcome}
+use Rattle.cck_hasher.specs.Decided as decision
+use Rattle.cck_hasher.specs.Judgement.{Judgement, Folder, Regular, Bad, judgement_at}
 use Rattle.cck_path.proofs.TestLemmas.{tied}
 use Rattle.cck_hasher.proofs.Elements.{first_in, later_in, none_in, one_of}
 use Rattle.cck_hasher.proofs.NameTests.{passed_for, taken_for}

@@ -11,7 +11,7 @@ use Rattle.cck_path.specs.Path.{Path}
 use Rattle.cck_path.specs.Timestamp.{Moment}
 use Rattle.cck_path.specs.declared.metadata.FileKind.{FileKind}
 use Rattle.cck_path.specs.declared.metadata.FileKind.TheVariants as kind
-use Rattle.cck_walk.specs.Judgement.{Folder, Regular, Bad, digest_judgement, is_late, kind_judgement, node_judgement, judgement_at}
+use Rattle.cck_hasher.specs.Judgement.{Folder, Regular, Bad, digest_judgement, is_late, kind_judgement, node_judgement, judgement_at}
 use Rattle.cck_hasher.proofs.Includes.{same_ok}
 use Rattle.cck_hasher.specs.Call.{Call}
 use Rattle.cck_hasher.specs.Walk.{IsGood, IsOld}

@@ -21,8 +21,8 @@ use Rattle.cck_path.specs.Bytes.{Bytes}
 use Rattle.cck_path.specs.Path.{components}
 use Rattle.cck_util.specs.Store.{Store}
 use Rattle.cck_util.specs.Key.{material}
-use Rattle.cck_walk.specs.declared.walk.Walk as walk
-use Rattle.cck_walk.specs.declared.walk.Walk.TheVariants as walked
+use Rattle.cck_hasher.specs.declared.walk.Walk as walk
+use Rattle.cck_hasher.specs.declared.walk.Walk.TheVariants as walked
 use Rattle.cck_files.proofs.FileLemmas.{found_without_contents, found_with_contents}
 use Rattle.cck_digest.specs.declared.key_error.KeyError.{KeyError}
 use Rattle.cck_digest.specs.declared.key_error.KeyError.TheVariants as key

@@ -5,7 +5,7 @@ use Rattle.std.proofs.lemmas.Bool.{and_from, and_parts, eq-eqb, eqb-true, falseâ
 use Rattle.std.proofs.lemmas.List.{length-append, take_all, take_more}
 use Rattle.std.specs.Prelude.{slice_index}
 use Rattle.cck_path.specs.Bytes.{Bytes}
-use Rattle.cck_walk.specs.Decided.{is_angled, is_passed}
+use Rattle.cck_hasher.specs.Decided.{is_angled, is_passed}
 
 -- `<` and `>` with nothing or something between
 abbrev pub IsAngled : Bytes â†’ Type 0

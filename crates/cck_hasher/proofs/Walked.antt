@@ -19,12 +19,12 @@ use Rattle.cck_path.specs.Bytes.{Bytes, variables_of}
 use Rattle.cck_path.specs.Path.{Path, components, path_cmp}
 use Rattle.cck_path.specs.Text.{path_text}
 use Rattle.cck_path.specs.Timestamp.{Moment}
-use Rattle.cck_walk.specs.Decided.{Accepts, Context, Digests, Errs, IsRefused, context_in, decided}
-use Rattle.cck_walk.specs.Decided as decision
-use Rattle.cck_walk.specs.Digests.{digest_pair, written}
-use Rattle.cck_walk.specs.Walk.{IsWalk}
-use Rattle.cck_walk.specs.declared.walk.Walk as walk
-use Rattle.cck_walk.specs.declared.walk.Walk.TheVariants as verdicts
+use Rattle.cck_hasher.specs.Decided.{Accepts, Context, Digests, Errs, IsRefused, context_in, decided}
+use Rattle.cck_hasher.specs.Decided as decision
+use Rattle.cck_hasher.specs.Digests.{digest_pair, written}
+use Rattle.cck_hasher.specs.WalkResult.{IsWalk}
+use Rattle.cck_hasher.specs.declared.walk.Walk as walk
+use Rattle.cck_hasher.specs.declared.walk.Walk.TheVariants as verdicts
 use Rattle.cck_hasher.proofs.Decisions.{AreGathered, IsMeant, gathers, none_regular, one_decision, claim}
 use Rattle.cck_hasher.proofs.Elements.{first_in, later_in}
 use Rattle.cck_hasher.proofs.Includes.{components-meant, include_here, kept_changed, kept_modified}

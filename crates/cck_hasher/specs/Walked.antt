@@ -8,10 +8,10 @@ use Rattle.cck_digest.specs.declared.key_error.KeyError.TheVariants.{Memory, Mar
 use Rattle.cck_path.specs.Bytes.{Bytes}
 use Rattle.cck_path.specs.Path.{components}
 use Rattle.cck_path.specs.Text.{path_text}
-use Rattle.cck_walk.specs.Decided.{Accepts, Context, Decided, Digests, IsRefused}
-use Rattle.cck_walk.specs.Decided as decision
-use Rattle.cck_walk.specs.declared.walk.Walk as walk
-use Rattle.cck_walk.specs.declared.walk.Walk.TheVariants as walked
+use Rattle.cck_hasher.specs.Decided.{Accepts, Context, Decided, Digests, IsRefused}
+use Rattle.cck_hasher.specs.Decided as decision
+use Rattle.cck_hasher.specs.declared.walk.Walk as walk
+use Rattle.cck_hasher.specs.declared.walk.Walk.TheVariants as walked
 use Rattle.cck_hasher.specs.Call.{Call}
 use Rattle.cck_hasher.specs.Included.{digested_of}
 use Rattle.cck_hasher.specs.Walk.{Accepted, AreRecorded, Errs, NotAccepted, Verdict, Walk, input_path}

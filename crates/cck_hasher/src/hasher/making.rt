@@ -16,12 +16,12 @@ use super::storing::put_result;
 use crate::conditions::Conditions;
 use crate::errors::{input_error, text_error};
 use crate::included::included_of;
+use crate::{Walk, process_preprocessed_file};
 use cck_compiler::{CCompilerImpl, KeyError, push_copies};
 use cck_digest::HashState;
 use cck_files::{Files, read_contents};
 use cck_path::join_path;
 use cck_util::{HashKeyParams, PreprocessorStore};
-use cck_walk::{Walk, process_preprocessed_file};
 use std::alloc::{AllocError, Global};
 
 /// An input that was preprocessed, and what its key and the entry of that key are made of.

@@ -2,7 +2,7 @@
 use crate::cases::{CaseError, Value};
 use crate::file_cases::cases::FileCases;
 use crate::file_cases::times::found_text;
-use cck_compiler::preprocessor_cache_entry_hash_key;
+use c_cache_keys::preprocessor_cache_entry_hash_key;
 use cck_util::{MapFiles, Sha256State};
 
 #[derive(Clone, Copy)]

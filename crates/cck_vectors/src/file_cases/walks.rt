@@ -4,7 +4,7 @@ use crate::cases::{
 };
 use cck_digest::{Digest, FileError, Sha256State, UtilError};
 use cck_files::{Files, MapFiles};
-use cck_walk::{
+use cck_hasher::{
     KeyError, LineAction, Records, Walk, process_preprocessed_file, process_preprocessor_line,
 };
 use std::alloc::{AllocError, Global};

@@ -1,5 +1,0 @@
-use Rattle.cck_walk.proofs.EqualityLemmas.{walk_decides}
-use Rattle.cck_walk.proofs.laws.walk_equality_is_exact.Goals as goal
-
-pub returns : goal.returns
-returns c = walk_decides

@@ -1,5 +1,0 @@
-use Rattle.cck_walk.proofs.SeenLemmas.{no_names}
-use Rattle.cck_walk.proofs.seen.SeenNames.new.Goals as goal
-
-pub returns : goal.returns
-returns c = λ name is_system has. no_names 2048 (name, is_system) has
