@@ -100,3 +100,9 @@ rest_here xs i x within is =
 -- where the first of those that are left matches, the others decide whether all match
 pub all_more : (m : Include → Bool) (i : Include) (rest following all : List Include) → rest ≡ i ∷ following → m i ≡ true → list_all m rest ≡ list_all m all → list_all m following ≡ list_all m all
 all_more m i rest following all is fits e = sym (ap (list_all m) is ∙ ap (λ b. b && list_all m following) fits) ∙ e
+
+-- where the first of those that are left does not match, not all match; or there was a fault, also an earlier one
+pub one_missed : (P Q : Type 0) (m : Include → Bool) (i : Include) (rest following all : List Include)
+    → (P → Q) → rest ≡ i ∷ following → MayMiss P false (m i) → list_all m rest ≡ list_all m all → MayMiss Q false (list_all m all)
+one_missed P Q m i rest following all f is (inl missed) e = inl (sym e ∙ (ap (list_all m) is ∙ ap (λ b. b && list_all m following) missed))
+one_missed P Q m i rest following all f is (inr fault) e = inr (f fault)

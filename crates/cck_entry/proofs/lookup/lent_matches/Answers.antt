@@ -1,7 +1,7 @@
-use Rattle.std.proofs.Common.{◌≡◌, true, subst}
-use Rattle.cck_files.proofs.CallsLemmas.{keeps_all}
+use Rattle.std.proofs.Common.{◌≡◌, true, false, subst}
+use Rattle.cck_files.proofs.CallsLemmas.{keeps_all, rose_earlier}
 use Rattle.cck_files.specs.Calls.{Rose}
-use Rattle.cck_entry.proofs.MatchLemmas.{all_more}
+use Rattle.cck_entry.proofs.MatchLemmas.{all_more, one_missed}
 use Rattle.cck_include.specs.Include.{include_lent}
 use Rattle.cck_include.specs.JudgeContext.{setting_of}
 use Rattle.cck_entry.specs.Known.{AreKnown}
@@ -42,3 +42,30 @@ loop-include-preserved g c =
       known = λ right. subst (λ m. AreKnown s m c.include_matches_with.new.known) c.loop-include.invariant.keeps.same_map (c.include_matches_with.ensures.known (before right));
       left = λ right. all_more (m old) n c.loop-include.include-iterator c.next.new.self (result_lent c.args.lent.now).1 c.in-Some.ensures.steps (fits right) (c.loop-include.invariant.left right);
     }
+
+pub returns-in_err-matches-clause-keeps : goal.returns-in_err-matches-clause-keeps
+returns-in_err-matches-clause-keeps g c =
+    keeps_all c.args.files.now c.loop-include.files c.include_matches_with.new.files c.loop-include.invariant.keeps c.include_matches_with.ensures.keeps
+
+pub returns-then-not-matches-clause-keeps : goal.returns-then-not-matches-clause-keeps
+returns-then-not-matches-clause-keeps g c =
+    keeps_all c.args.files.now c.loop-include.files c.include_matches_with.new.files c.loop-include.invariant.keeps c.in_ok-matches.ensures.keeps
+
+pub returns-then-not-matches-clause-outcome : goal.returns-then-not-matches-clause-outcome
+returns-then-not-matches-clause-outcome g c = λ right.
+    let F = g.F.Files in
+    let s = setting_of g.H.HashState.hash c.args.context.now in
+    let m = matches_with c.args.statuses.now s in
+    let n = include_lent c.in-Some.include in
+    let before : AreKnown s (F.file_map c.loop-include.files) c.loop-include.known = rw c.loop-include.invariant.keeps.same_map (c.loop-include.invariant.known right) in
+    let R = Rose (F.faults c.loop-include.files) (F.faults c.include_matches_with.new.files) in
+    let there : MayMiss R false (m (F.file_map c.args.files.now) n) =
+    rw (← c.loop-include.invariant.keeps.same_map) (subst (λ b. MayMiss R b (m (F.file_map c.loop-include.files) n)) c.if-not-matches.true (c.in_ok-matches.ensures.outcome before)) in
+    one_missed R (Rose (F.faults c.args.files.now) (F.faults c.include_matches_with.new.files)) (m (F.file_map c.args.files.now)) n c.loop-include.include-iterator c.next.new.self (result_lent c.args.lent.now).1
+    (rose_earlier (F.faults c.args.files.now) (F.faults c.loop-include.files) (F.faults c.include_matches_with.new.files) c.loop-include.invariant.keeps.not_lower) c.in-Some.ensures.steps there (c.loop-include.invariant.left right)
+
+pub returns-clause-keeps : goal.returns-clause-keeps
+returns-clause-keeps g c = c.loop-include.invariant.keeps
+
+pub returns-clause-known : goal.returns-clause-known
+returns-clause-known g c = c.loop-include.invariant.known
