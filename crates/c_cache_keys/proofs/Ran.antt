@@ -23,10 +23,12 @@ module _ {I F V : Type 0} (value : I → V) (file_map : F → FileMap) (faults :
         → IsReturned value file_map faults w st mid (get_or news i v) (record (get_or news i v) { files = f }) r t
         → AreReturned value file_map faults w st s (take (suc i) olds) (take (suc i) (set news i (record (get_or news i v) { files = f }))) (rs ++ r ∷ []) t
     returned_more zero [] news rs v f r s mid t l same made next = absurd (omega (l, arith))
-    returned_more zero (o ∷ olds) [] rs v f r s mid t l same made next = absurd cc
+    returned_more zero (o ∷ olds) [] rs v f r s mid t l same made next =
+        let none : 0 ≡ suc (length olds) = ap length same in
+        absurd (omega (none, arith))
     returned_more zero (o ∷ olds) (n ∷ news) (x ∷ rs) v f r s mid t l same made next = absurd made
     returned_more zero (o ∷ olds) (n ∷ news) [] v f r s mid t l same made next =
-        let first : n ≡ o = cc in
+        let first : n ≡ o = ap (λ xs. get_or xs 0 n) same in
         (t, subst (λ b. IsReturned value file_map faults w st s b (record n { files = f }) r t) first (subst (λ m. IsReturned value file_map faults w st m n (record n { files = f }) r t) made next), refl)
     returned_more (suc i) [] news rs v f r s mid t l same made next = absurd (omega (l, arith))
     returned_more (suc i) (o ∷ olds) [] rs v f r s mid t l same made next = absurd made
@@ -61,7 +63,7 @@ pub rest_more : {A : Type 0} (i : ℕ) (olds news : List A) (v : A) → length n
 rest_more i [] [] v long same = refl
 rest_more i [] (n ∷ news) v long same = absurd (omega (long, arith))
 rest_more i (o ∷ olds) [] v long same = absurd (omega (long, arith))
-rest_more zero (o ∷ olds) (n ∷ news) v long same = cc
+rest_more zero (o ∷ olds) (n ∷ news) v long same = ap (drop 1) same
 rest_more (suc i) (o ∷ olds) (n ∷ news) v long same = rest_more i olds news v (omega (long, arith)) same
 
 module _ {I F : Type 0} (file_map : F → FileMap) (faults : F → ℕ) (is_quiet : F → Type 0) where
@@ -77,6 +79,6 @@ module _ {I F : Type 0} (file_map : F → FileMap) (faults : F → ℕ) (is_quie
   after_more i [] (n ∷ news) r f l same keeps all = absurd all
   after_more i (o ∷ olds) [] r f l same keeps all = absurd all
   after_more zero (o ∷ olds) (n ∷ news) r f l same keeps all =
-      let first : n ≡ o = cc in
+      let first : n ≡ o = ap (λ xs. get_or xs 0 n) same in
       (record { same = ap (λ (c : Call I F). record c { files = f }) first; keeps = subst (λ (c : Call I F). Keeps file_map faults is_quiet c.files f) first keeps }, all.1)
   after_more (suc i) (o ∷ olds) (n ∷ news) r f l same keeps all = (all.0, after_more i olds news r f (omega (l, arith)) same keeps all.1)
