@@ -48,8 +48,8 @@ returns-in_default-4-clause-absence g c =
 pub returns-in-None-clause-absence : goal.returns-in-None-clause-absence
 returns-in-None-clause-absence g c = rw c.in-None.is at c.in_ok-tests_after.ensures.tests
 
-pub returns-in-Some-5-clause-absence : goal.returns-in-Some-5-clause-absence
-returns-in-Some-5-clause-absence g c =
+pub returns-clause-absence : goal.returns-clause-absence
+returns-clause-absence g c =
     let directory = c.args.preprocessed.now.request.now.directory.now in
     let text = c.args.preprocessed.now.text.now in
     let search = search_fields c.in-Some.search in

@@ -30,6 +30,6 @@ returns-clause-tests g c =
       links = links;
       links_are = λ marks are. placed_as (IsPathOf directory IsSystem) (IsPathOf directory (λ name. IsTrue (is_system_name marks name))) links
           (λ p at. (at.0, sym (c.in_ok-systems.ensures marks are at.0) ∙ at.1, at.2)) (λ p at. (at.0, c.in_ok-systems.ensures marks are at.0 ∙ at.1, at.2)) placed;
-      tests_are = tests_joined c.in_ok-all_tests.field-0.items c.in_ok-tests-2.tests.items links.real.items (others ++ tests_of links.plain.items) c.in_ok-all_tests.ensures
-          (tests_joined c.in_ok-tests-2.tests.items c.add_directories.new.tests.items links.plain.items others c.in_ok-tests-2.ensures others_are);
+      tests_are = tests_joined c.in_ok-all_tests.field-0.items c.in_ok-tests.tests.items links.real.items (others ++ tests_of links.plain.items) c.in_ok-all_tests.ensures
+          (tests_joined c.in_ok-tests.tests.items c.add_directories.new.tests.items links.plain.items others c.in_ok-tests.ensures others_are);
     }
