@@ -2,11 +2,9 @@
 use crate::cases::{
     CaseError, CaseLine, Given, GivenFiles, Value, bytes_of, find, number, write_numbers, zone_of,
 };
-use cck_digest::{Digest, FileError, Sha256State, UtilError};
+use cck_digest::{Digest, FileError, KeyError, Sha256State, UtilError};
 use cck_files::{Files, MapFiles};
-use cck_hasher::{
-    KeyError, LineAction, Records, Walk, process_preprocessed_file, process_preprocessor_line,
-};
+use cck_hasher::{LineAction, Records, Walk, process_preprocessed_file, process_preprocessor_line};
 use std::alloc::{AllocError, Global};
 
 #[derive(Clone, Copy)]
