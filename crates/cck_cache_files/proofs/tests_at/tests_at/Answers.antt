@@ -40,6 +40,14 @@ pub returns-in_default-clause-kept : goal.returns-in_default-clause-kept
 returns-in_default-clause-kept g c =
     KeepsStates-trans c.args.states.now c.loop-name.states c.test_at.new.states c.loop-name.invariant.0 c.test_at.ensures.kept
 
+pub returns-in_err-test-clause-kept : goal.returns-in_err-test-clause-kept
+returns-in_err-test-clause-kept g c =
+    KeepsStates-trans c.args.states.now c.loop-name.states c.test_at.new.states c.loop-name.invariant.0 c.test_at.ensures.kept
+
+pub returns-in_err-push_test-clause-kept : goal.returns-in_err-push_test-clause-kept
+returns-in_err-push_test-clause-kept g c =
+    KeepsStates-trans c.args.states.now c.loop-name.states c.test_at.new.states c.loop-name.invariant.0 c.test_at.ensures.kept
+
 pub loop-name-preserved : goal.loop-name-preserved
 loop-name-preserved g c =
     let keys = c.args.names.now.keys in

@@ -52,6 +52,14 @@ pub returns-in-Doubtful-clause-kept : goal.returns-in-Doubtful-clause-kept
 returns-in-Doubtful-clause-kept g c =
     KeepsStates-trans c.args.states.now c.loop-name.states c.unnamed_verdict.new.states c.loop-name.invariant.kept c.unnamed_verdict.ensures.kept
 
+pub returns-in_err-verdict-clause-kept : goal.returns-in_err-verdict-clause-kept
+returns-in_err-verdict-clause-kept g c =
+    KeepsStates-trans c.args.states.now c.loop-name.states c.unnamed_verdict.new.states c.loop-name.invariant.kept c.unnamed_verdict.ensures.kept
+
+pub returns-in_err-add_left-in-Spelling-clause-kept : goal.returns-in_err-add_left-in-Spelling-clause-kept
+returns-in_err-add_left-in-Spelling-clause-kept g c =
+    KeepsStates-trans c.args.states.now c.loop-name.states c.unnamed_verdict.new.states c.loop-name.invariant.kept c.unnamed_verdict.ensures.kept
+
 pub loop-name-preserved : goal.loop-name-preserved
 loop-name-preserved g c =
     let keys = c.args.names.now.keys in
