@@ -1,5 +1,5 @@
 #!/usr/bin/env python3
-"""Changes of a file at each moment of a call: at each system call that names one of the paths of a case, by whichever
+"""Changes of a file at each point of a call: at each system call that names one of the paths of a case, by whichever
 process, the change is made at that call, once. `strace` stops the process there. The call is one that records, or one
 that finds an object: this one has to make what the plain compiler makes of the files before the change or after it. What
 the next two calls make, with the change and without it, has to be what the plain compiler makes then. The cases are in
@@ -25,7 +25,7 @@ STOPPED = re.compile(rb"^(\d+) +--- stopped by SIGSTOP ---$", re.M)
 
 
 class Case:
-    """A project, a call, the paths at which the moments are, and a change with what takes it back."""
+    """A project, a call, the paths at which the points are, and a change with what takes it back."""
 
     def __init__(self, name):
         self.name, self.files, self.call, self.paths, self.change, self.undo = name, [], [], [], [], []
@@ -101,7 +101,7 @@ class Room:
         how = {"cwd": self.place, "env": self.variables, "capture_output": True, "check": False}
         return self.made(subprocess.run(words, **how))
 
-    def run_stopped(self, moment):
+    def run_stopped(self, point):
         """What a call makes in which the change is made at the system call of this number, and how many there were."""
         trace = f"{self.room}/trace"
         paths = [word for path in self.case.paths for word in ("-P", f"{self.place}/{path}")]
@@ -121,7 +121,7 @@ class Room:
             seen += len(text)
             for stopped in STOPPED.findall(text):
                 stops += 1
-                if stops == moment:
+                if stops == point:
                     for change in self.case.change:
                         self.make(*change)
                 os.kill(int(stopped), signal.SIGCONT)
@@ -136,8 +136,8 @@ class Room:
             return any(line.split()[1].rstrip(":") == word for line in file)
 
 
-def try_moment(case, finds, moment):
-    """What is wrong with the change at a moment, if anything, and whether there is such a moment."""
+def try_point(case, finds, point):
+    """What is wrong with the change at a point, if anything, and whether there is such a point."""
     room = Room(case)
     try:
         before = room.run()
@@ -145,8 +145,8 @@ def try_moment(case, finds, moment):
             room.run(WRAPPER)
             if not room.has_logged("recorded"):
                 return "the call is not recorded", False
-        got, stops = room.run_stopped(moment)
-        if stops < moment:
+        got, stops = room.run_stopped(point)
+        if stops < point:
             return None, False
         after = room.run()
         # A call that records makes what the compiler makes of files that change meanwhile.
@@ -166,15 +166,15 @@ def try_moment(case, finds, moment):
 
 
 def try_all(case, finds):
-    """The moments of a case, and what is wrong at which."""
-    wrong, moment = [], 0
+    """The points of a case, and what is wrong at which."""
+    wrong, point = [], 0
     while True:
-        why, is_one = try_moment(case, finds, moment + 1)
-        moment += is_one
+        why, is_one = try_point(case, finds, point + 1)
+        point += is_one
         if why:
-            wrong.append((moment, why))
+            wrong.append((point, why))
         if not is_one:
-            return case.name, finds, moment, wrong
+            return case.name, finds, point, wrong
 
 
 def main():
@@ -183,20 +183,22 @@ def main():
     reader.add_argument("--jobs", type=int, default=len(os.sched_getaffinity(0)))
     given = reader.parse_args()
     need_program()
+    if not shutil.which("strace"):
+        sys.exit("no program strace")
     cases = [case for case in cases_of(f"{HERE}/real/races.txt") if not given.names or case.name in given.names]
     passed = failed = 0
     with concurrent.futures.ThreadPoolExecutor(given.jobs) as pool:
         tries = [pool.submit(try_all, case, finds) for case in cases for finds in (False, True)]
         for done in tries:
-            name, finds, moments, wrong = done.result()
+            name, finds, points, wrong = done.result()
             how = "found" if finds else "recorded"
-            for moment, why in wrong:
-                print(f"{name}, {how}, moment {moment}: {why}")
-            if not moments and not wrong:
-                print(f"{name}, {how}: no moment")
-            failed += len(wrong) or not moments
-            passed += moments - len(wrong) if moments else 0
-            print(f"{name}, {how}: {moments} moments", file=sys.stderr)
+            for point, why in wrong:
+                print(f"{name}, {how}, point {point}: {why}")
+            if not points and not wrong:
+                print(f"{name}, {how}: no point")
+            failed += len(wrong) or not points
+            passed += points - len(wrong) if points else 0
+            print(f"{name}, {how}: {points} points", file=sys.stderr)
     print(f"real_races: {passed} passed, {failed} failed")
     return failed > 0
 

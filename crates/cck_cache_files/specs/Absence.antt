@@ -64,7 +64,7 @@ pub record HasUnknownHeader (text : Bytes) (arguments : List Bytes) (printed : B
 abbrev pub HasUnknownLink : Bytes → Type 0
 HasUnknownLink text = (marks : List Mark) → Marks true text marks → (name : Bytes) × IsTrue (is_system_name marks name)
 
--- tests after these, or none where that is so
+-- tests after these; or none, where a system header is named of which it is not known where it is
 abbrev pub AreTestsAfterIfKnown : Bytes → Bytes → List Test → Option (List Test) → Type 0
 AreTestsAfterIfKnown directory text first None = HasUnknownLink text
 AreTestsAfterIfKnown directory text first (Some tests) = AreTestsAfter directory text first tests
