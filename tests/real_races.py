@@ -29,6 +29,8 @@ class Case:
 
     def __init__(self, name):
         self.name, self.files, self.call, self.paths, self.change, self.undo = name, [], [], [], [], []
+        # The path of the compiler, where it is one of the project; and whether the call before the change is recorded.
+        self.compiler, self.is_recorded = None, True
 
 
 def cases_of(path):
@@ -40,8 +42,12 @@ def cases_of(path):
             rest = rest[0].rstrip("\n") if rest else ""
             if word == "case":
                 cases.append(Case(rest))
-            elif word in ("file", "link"):
+            elif word in ("file", "link", "copy"):
                 cases[-1].files.append((word, *rest.split(None, 1)))
+            elif word == "compiler":
+                cases[-1].compiler = rest
+            elif word == "refused":
+                cases[-1].is_recorded = False
             elif word in ("call", "paths"):
                 setattr(cases[-1], word, rest.split())
             elif word in ("change", "undo"):
@@ -54,18 +60,21 @@ def cases_of(path):
 class Room:
     """A directory with the project of a case, and a store."""
 
-    def __init__(self, case):
-        self.case, self.room = case, tempfile.mkdtemp(prefix="cck-races-")
+    def __init__(self, case, pause):
+        self.case, self.pause, self.room = case, pause, tempfile.mkdtemp(prefix="cck-races-")
         self.place, self.log = f"{self.room}/project", f"{self.room}/log"
         self.variables = dict(os.environ, CCK_PROGRAM=PROGRAM, CCK_STORE=f"{self.room}/store", CCK_LOG=self.log, LC_ALL="C")
         os.makedirs(f"{self.room}/store")
-        os.symlink(DIGESTS, f"{self.room}/store/compilers")
+        self.compiler = f"{self.place}/{case.compiler}" if case.compiler else "gcc"
+        if not case.compiler:
+            os.symlink(DIGESTS, f"{self.room}/store/compilers")
         for word, path, text in case.files:
-            self.make({"file": "write", "link": "link"}[word], path, text)
-        time.sleep(PAUSE)
+            self.make("write" if word == "file" else word, path, text)
+        time.sleep(pause)
 
     def make(self, word, path, text=""):
-        """Makes a change: `write` a file where it is, `replace` what is at a path by a new file, `link` it, or `remove` it."""
+        """Makes a change: `write` a file where it is, `replace` what is at a path by a new file, `link` it, `copy` another
+        file to it, `move` it to another path, or `remove` it."""
         path = f"{self.place}/{path}"
         os.makedirs(os.path.dirname(path), exist_ok=True)
         if word == "write":
@@ -78,6 +87,10 @@ class Room:
         elif word == "link":
             os.symlink(text, path + ".new")
             os.rename(path + ".new", path)
+        elif word == "copy":
+            shutil.copy(text, path)
+        elif word == "move":
+            os.rename(path, f"{self.place}/{text}")
         elif word == "remove":
             os.unlink(path)
         else:
@@ -97,16 +110,19 @@ class Room:
 
     def run(self, *front):
         """What a call makes."""
-        words = [*front, "gcc", "-MD", "-MF", "d", *self.case.call, "-o", "o"]
+        words = [*front, self.compiler, "-MD", "-MF", "d", *self.case.call, "-o", "o"]
         how = {"cwd": self.place, "env": self.variables, "capture_output": True, "check": False}
         return self.made(subprocess.run(words, **how))
 
     def run_stopped(self, point):
-        """What a call makes in which the change is made at the system call of this number, and how many there were."""
+        """What a call makes in which the change is made at the system call of this number, and how many there were. Where times
+        have whole seconds the call begins with one, so that the change comes in the same second."""
+        if self.pause >= 1:
+            time.sleep(1 - time.time() % 1)
         trace = f"{self.room}/trace"
         paths = [word for path in self.case.paths for word in ("-P", f"{self.place}/{path}")]
         front = ["strace", "-f", "-o", trace, *paths, "-e", "trace=%file", "-e", "inject=%file:signal=SIGSTOP:when=1+", WRAPPER]
-        words = [*front, "gcc", "-MD", "-MF", "d", *self.case.call, "-o", "o"]
+        words = [*front, self.compiler, "-MD", "-MF", "d", *self.case.call, "-o", "o"]
         with open(f"{self.room}/out", "wb") as out, open(f"{self.room}/err", "wb") as err:
             ran = subprocess.Popen(words, cwd=self.place, env=self.variables, stdout=out, stderr=err)
         seen = stops = 0
@@ -136,9 +152,10 @@ class Room:
             return any(line.split()[1].rstrip(":") == word for line in file)
 
 
-def try_point(case, finds, point):
-    """What is wrong with the change at a point, if anything, and whether there is such a point."""
-    room = Room(case)
+def try_point(case, finds, point, pause):
+    """What is wrong with the change at a point, if anything, and whether there is such a point. After a pause a file that
+    was written is older than a look-up."""
+    room = Room(case, pause)
     try:
         before = room.run()
         if finds:
@@ -152,12 +169,12 @@ def try_point(case, finds, point):
         # A call that records makes what the compiler makes of files that change meanwhile.
         if finds and got not in (before, after):
             return "the call itself", True
-        time.sleep(PAUSE)
+        time.sleep(pause)
         if room.run(WRAPPER) != after:
             return "the next call", True
         for change in case.undo:
             room.make(*change)
-        time.sleep(PAUSE)
+        time.sleep(pause)
         if room.run(WRAPPER) != room.run():
             return "the call after it was taken back", True
         return None, True
@@ -165,11 +182,11 @@ def try_point(case, finds, point):
         shutil.rmtree(room.room)
 
 
-def try_all(case, finds):
+def try_all(case, finds, pause):
     """The points of a case, and what is wrong at which."""
     wrong, point = [], 0
     while True:
-        why, is_one = try_point(case, finds, point + 1)
+        why, is_one = try_point(case, finds, point + 1, pause)
         point += is_one
         if why:
             wrong.append((point, why))
@@ -181,6 +198,8 @@ def main():
     reader = argparse.ArgumentParser(description=__doc__)
     reader.add_argument("names", nargs="*", help="the cases, by default all")
     reader.add_argument("--jobs", type=int, default=len(os.sched_getaffinity(0)))
+    reader.add_argument("--pause", type=float, default=PAUSE, help="seconds after which files count as old: more than one where "
+                        "TMPDIR is on a file system whose times have whole seconds")
     given = reader.parse_args()
     need_program()
     if not shutil.which("strace"):
@@ -188,7 +207,8 @@ def main():
     cases = [case for case in cases_of(f"{HERE}/real/races.txt") if not given.names or case.name in given.names]
     passed = failed = 0
     with concurrent.futures.ThreadPoolExecutor(given.jobs) as pool:
-        tries = [pool.submit(try_all, case, finds) for case in cases for finds in (False, True)]
+        tries = [pool.submit(try_all, case, finds, given.pause) for case in cases
+                 for finds in ((False, True) if case.is_recorded else (False,))]
         for done in tries:
             name, finds, points, wrong = done.result()
             how = "found" if finds else "recorded"

@@ -262,6 +262,18 @@ fn may_be_taken(found: &fs::Metadata, is_old: bool, is_like: bool) -> bool
     !found.is_file() || !is_old || is_like
 }
 
+// The contents of the file at a path. `None` where it can't be read, is not a regular file, or last changed at or after
+// this time. The status is taken after the contents, so that they are those that the compiler found.
+fn old_contents<R: Files + AllocGlobal>(rt: &R, path: &str, since: Timestamp) -> Option<Vec<u8>> {
+    let contents = fs::read(rt, path).ok()?;
+    let found = fs::metadata(rt, path).ok()?;
+    if found.is_file() && changed_before(modified(&found), changed(&found), since) {
+        Some(contents)
+    } else {
+        None
+    }
+}
+
 // Whether the file at a path has other contents than these. `false` where that can't be known: it is not a
 // regular file, last changed at or after the given time, or can't be read.
 fn differs<R: Files + AllocGlobal>(rt: &R, contents: &[u8], path: &[u8], since: Timestamp) -> bool {
@@ -277,9 +289,9 @@ fn differs<R: Files + AllocGlobal>(rt: &R, contents: &[u8], path: &[u8], since: 
     if !is_length_like(found.len(), contents.len() as u64) {
         return true;
     }
-    match fs::read(rt, path) {
-        Ok(other) => without_mark(&other) != without_mark(contents),
-        Err(_) => false,
+    match old_contents(rt, path, since) {
+        Some(other) => without_mark(&other) != without_mark(contents),
+        None => false,
     }
 }
 
@@ -289,7 +301,7 @@ fn differs_from_all<R: Files + AllocGlobal>(rt: &R, path: &str, compared: &Compa
     let Some(paths) = &compared.paths else {
         return false;
     };
-    let Ok(contents) = fs::read(rt, path) else {
+    let Some(contents) = old_contents(rt, path, compared.since) else {
         return false;
     };
     if !may_be_read_once(&contents) {
