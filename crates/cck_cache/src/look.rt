@@ -162,16 +162,17 @@ fn matching_name<R: Files + AllocGlobal>(
         → IsKeyOver asked.now files.old.files key.now
         → IfSome found (IsNamedMatch environment.entry.now.reads_all request.now asked.now files.old.files key.now file.now.entry.items (statuses_of file.now.statuses.items) (tests_of file.now.tests.items))) }
 {
-    let known = unchanged_statuses(rt, trusted_statuses(file, environment.reads_all))?;
-    let None = first_failing(rt, &known, &file.tests)? else {
+    let unchanged = unchanged_statuses(rt, trusted_statuses(file, environment.reads_all))?;
+    let None = first_failing(rt, &unchanged.directories, &file.tests)? else {
         return Ok(None);
     };
     let alloc = rt.alloc();
     let Some(entry) = entry_view(alloc, &file.entry)? else {
         return Ok(None);
     };
-    add_entry_files(rt, files, &known, &entry)?;
-    let found = look_up::<Sha256State, MapFiles>(alloc, files, &known, asked, &entry)?;
+    let known = &unchanged.files;
+    add_entry_files(rt, files, known, &entry)?;
+    let found = look_up::<Sha256State, MapFiles>(alloc, files, known, asked, &entry)?;
     let Some(object) = found else {
         return Ok(None);
     };

@@ -13,6 +13,7 @@ use cck_files::MapFiles;
 use cck_include::JudgeContext;
 use cck_util::Sha256State;
 use std::alloc::AllocError;
+use std::collections::HashMap;
 use std::io::Write;
 use std::rt::Files;
 
@@ -74,15 +75,16 @@ fn print_entry<R: Files + AllocGlobal>(
     file: &EntryFile,
     lines: &mut Vec<u8>,
 ) -> Result<()> {
-    let nothing_known = PathMap::new(rt.alloc());
-    if let Some(test) = first_failing(rt, &nothing_known, &file.tests)? {
+    let alloc = rt.alloc();
+    let nothing_known = PathMap::new(alloc);
+    if let Some(test) = first_failing(rt, &HashMap::new(alloc), &file.tests)? {
         print_test(lines, test)?;
     }
-    let Some(entry) = entry_view(rt.alloc(), &file.entry)? else {
+    let Some(entry) = entry_view(alloc, &file.entry)? else {
         bail!("the bytes of the entry are malformed");
     };
     add_entry_files(rt, files, &nothing_known, &entry)?;
-    let mut known = KnownFiles::new(rt.alloc());
+    let mut known = KnownFiles::new(alloc);
     for result in entry.results() {
         writeln!(lines, "result {}", result.key())?;
         print_changed(rt, environment, files, &mut known, result, lines)?;

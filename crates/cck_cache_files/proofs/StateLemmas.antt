@@ -22,11 +22,11 @@ use Rattle.cck_cache_files.specs.contracts.path_states.PathState.{the_type}
 abbrev Known : Type 0
 Known = HashMap (Vec ℕ) PathState (BuildHasherDefault FoldHasher)
 
-abbrev same_name : Vec ℕ → Vec ℕ → Bool
+abbrev pub same_name : Vec ℕ → Vec ℕ → Bool
 same_name a b = bytes_eq a.items b.items
 
 -- bytes that are not those of a path are at no key of the path
-apart : (path other key : List ℕ) → other ≢ path → bytes_eq path key ≡ true → bytes_eq other key ≡ false
+pub apart : (path other key : List ℕ) → other ≢ path → bytes_eq path key ≡ true → bytes_eq other key ≡ false
 apart path other key ne e =
     let same : path ≡ key = (bytes_eq-Decides path key).0 e in
     ⊎_elim

@@ -1,6 +1,9 @@
 -- statuses of paths: the directories of absent paths, and included files
-use Rattle.std.specs.Prelude.{◌≡◌, ◌<◌, ◌⊎◌, List, ℕ, [], ◌∷◌, ◌++◌, Some, true, false, length, Contains}
+use Rattle.std.specs.Prelude.{◌≡◌, ◌<◌, ◌⊎◌, List, ℕ, [], ◌∷◌, ◌++◌, Option, Some, true, false, length, Contains}
 use Rattle.std.specs.FinMap.{get}
+use Rattle.std.specs.Global.{Vec}
+use Rattle.std.specs.HashMap.{HashMap, get_by}
+use Rattle.std.specs.Str.{bytes_eq}
 use Rattle.cck_cache_rules.specs.PathStatus.{Status}
 use Rattle.cck_entry.specs.Statuses.{Statuses, known_accepts}
 use Rattle.cck_files.specs.FileState.{FileState}
@@ -20,12 +23,16 @@ pub record IsInDirectory (path directory : List ℕ) : Type 0 where
   pub whole : path ≡ directory ++ 47 ∷ name
   pub is_some : 0 < length directory
 
+-- what is known of the directory at a path, by the bytes of the path
+abbrev pub directory_at : {S : Type 0} → HashMap (Vec ℕ) Metadata S → List ℕ → Option Metadata
+directory_at directories path = get_by (λ known. bytes_eq path known.items) directories
+
 -- a path is that of a name in a directory of which something is known
-pub record IsInKnownDirectory (known : Statuses) (path : List ℕ) : Type 0 where
+pub record IsInKnownDirectory {S : Type 0} (directories : HashMap (Vec ℕ) Metadata S) (path : List ℕ) : Type 0 where
   pub directory : List ℕ
   pub is_in : IsInDirectory path directory
   pub metadata : Metadata
-  pub is_known : get known (components directory) ≡ Some metadata
+  pub is_known : directory_at directories directory ≡ Some metadata
   pub is_directory : metadata.kind ≡ Folder
 
 -- a status has two times before this one
@@ -50,6 +57,17 @@ pub record IsAsRecorded (recorded : List Status) (p : Path) (m : Metadata) : Typ
 
 abbrev pub AreAsRecorded : List Status → Statuses → Type 0
 AreAsRecorded recorded known = (p : Path) (m : Metadata) → get known p ≡ Some m → IsAsRecorded recorded p m
+
+-- the same of a directory, whose path has the bytes of the status's
+pub record IsDirectoryAsRecorded (recorded : List Status) (path : List ℕ) (m : Metadata) : Type 0 where
+  pub status : Status
+  pub is_one : Contains recorded status
+  pub path_is : status.path ≡ path
+  pub modified : m.modified ≡ Some status.modified
+  pub changed : m.changed ≡ Some status.changed
+
+abbrev pub AreDirectoriesAsRecorded : {S : Type 0} → List Status → HashMap (Vec ℕ) Metadata S → Type 0
+AreDirectoriesAsRecorded recorded directories = (path : List ℕ) (m : Metadata) → directory_at directories path ≡ Some m → IsDirectoryAsRecorded recorded path m
 
 -- An include is accepted by what is known of its path, and the snapshot is as it was; or what is at its path was put into the snapshot.
 abbrev pub IsIncludeAdded : Include → Statuses → FileState → FileState → Type 0

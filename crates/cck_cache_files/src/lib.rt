@@ -72,7 +72,8 @@ pub use identity::Identity;
 pub use listing::{StoredFile, list_counts, list_files, list_share};
 pub use path_states::{PathState, PathStates, is_file};
 pub use path_statuses::{
-    TextStatuses, add_directory_statuses, add_included, text_statuses, unchanged_statuses,
+    TextStatuses, UnchangedPaths, add_directory_statuses, add_included, text_statuses,
+    unchanged_statuses,
 };
 pub use path_tests::first_failing;
 pub use preprocessed::Preprocessed;

@@ -2,7 +2,7 @@
 ghost use Rattle.std.specs.Prelude.{◌≡◌, [], IfOk, IfSome, IsTrue, IsUtf8};
 ghost use Rattle.std.specs.FinMap.{empty};
 ghost use Rattle.std.specs.Prelude.{IsOkUnless, OnOk};
-ghost use Rattle.cck_cache_files.specs.PathStatuses.{AreAsRecorded, AreStatusesBefore, IsInDirectory, IsInKnownDirectory, IsIncludeAdded, IsStatusAdded};
+ghost use Rattle.cck_cache_files.specs.PathStatuses.{AreAsRecorded, AreDirectoriesAsRecorded, AreStatusesBefore, IsInDirectory, IsInKnownDirectory, IsIncludeAdded, IsStatusAdded};
 ghost use Rattle.cck_cache_files.specs.Snapshot.{IsPart, StaysCalm};
 ghost use Rattle.cck_cache_rules.specs.PathStatus.{statuses_of};
 ghost use Rattle.cck_files.specs.FileState.{IsQuiet};
@@ -19,13 +19,23 @@ use cck_entry::{FileKind, IncludeRef, Metadata, PathMap, status_accepts};
 use cck_files::MapFiles;
 use cck_path::Timestamp;
 use std::alloc::{AllocError, Global};
-use std::collections::BTreeSet;
+use std::collections::{BTreeSet, HashMap};
 use std::fs;
 use std::os::unix::fs::MetadataExt;
 use std::rt::Files;
 
 // The bits of a file's mode with which its owner, its group and others may read it.
 const ALL_READ: u32 = 0o444;
+
+/// What the system says the same of now as when an entry was recorded.
+#[derive(Drop)]
+pub struct UnchangedPaths {
+    /// What is known of the paths of files.
+    pub files: PathMap<Metadata>,
+    /// What is known of directories, by the bytes of their paths: there are many tests of a directory's names, and many
+    /// paths begin alike, which makes comparing them long.
+    pub directories: HashMap<Vec<u8>, Metadata>,
+}
 
 /// What the system says of the files of a text.
 #[derive(Drop)]
@@ -238,31 +248,39 @@ fn unchanged<R: Files + AllocGlobal>(
 pub fn unchanged_statuses<R: Files + AllocGlobal>(
     rt: &R,
     statuses: &[PathStatus],
-) -> Result<PathMap<Metadata>, UtilError>
-    ensures recorded { IfOk result (AreAsRecorded (statuses_of statuses.now)) }
-    ensures none { statuses.now ≡ [] → IfOk result (λ known. known ≡ empty) }
+) -> Result<UnchangedPaths, UtilError>
+    ensures recorded { IfOk result (λ found. AreAsRecorded (statuses_of statuses.now) found.files) }
+    ensures directories { IfOk result (λ found. AreDirectoriesAsRecorded (statuses_of statuses.now) found.directories) }
+    ensures none { statuses.now ≡ [] → IfOk result (λ found. found.files ≡ empty) }
     ensures errors { IsOkUnless result UtilError.Memory }
 {
-    let mut known = PathMap::new(rt.alloc());
+    let alloc = rt.alloc();
+    let mut files = PathMap::new(alloc);
+    let mut directories = HashMap::new(alloc);
     for status in statuses {
         let found = unchanged(rt, status)?;
-        if let Some(metadata) = found {
-            known.insert(&status.path, metadata)?;
+        let Some(metadata) = found else {
+            continue;
+        };
+        if metadata.kind == FileKind::Folder {
+            directories.insert(status.path.to_vec(alloc)?, metadata)?;
+        } else {
+            files.insert(&status.path, metadata)?;
         }
     }
-    Ok(known)
+    Ok(UnchangedPaths { files, directories })
 }
 
 /// Whether a path is that of a name in a directory that is known to be unchanged: no name came or went there,
 /// so what has the name, if anything has it, is of the kind that it was.
-pub fn is_in_unchanged_directory(known: &PathMap<Metadata>, path: &[u8]) -> bool
+pub fn is_in_unchanged_directory(directories: &HashMap<Vec<u8>, Metadata>, path: &[u8]) -> bool
     ensures utf8 { IsTrue result → IsUtf8 path.now }
-    ensures known { IsTrue result → IsInKnownDirectory known.now path.now }
+    ensures known { IsTrue result → IsInKnownDirectory directories.now path.now }
 {
     let Some(directory) = directory_of(path) else {
         return false;
     };
-    match known.get(directory.as_bytes()) {
+    match directories.get(directory.as_bytes()) {
         Some(metadata) => metadata.kind == FileKind::Folder,
         None => false,
     }

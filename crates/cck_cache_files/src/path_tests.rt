@@ -10,8 +10,9 @@ use crate::path_statuses::is_in_unchanged_directory;
 use crate::real_paths::leads_to;
 use crate::searched::SearchedDirectories;
 use cck_cache_rules::PathTest;
-use cck_path::{Metadata, PathMap, Timestamp};
+use cck_path::{Metadata, Timestamp};
 use std::alloc::AllocError;
+use std::collections::HashMap;
 use std::rt::Files;
 
 // Whether a directory is at a path, of which the first one that is the same has this place. It is added
@@ -35,7 +36,7 @@ fn is_searched_at<R: Files + AllocGlobal>(
 // Whether a test holds now.
 fn holds<R: Files + AllocGlobal>(
     rt: &R,
-    known: &PathMap<Metadata>,
+    unchanged: &HashMap<Vec<u8>, Metadata>,
     searched: &mut SearchedDirectories,
     states: &mut PathStates,
     test: &PathTest,
@@ -45,12 +46,14 @@ fn holds<R: Files + AllocGlobal>(
         (Fails searched.old.identities.items (test_of test.now))) }
 {
     match test {
-        PathTest::Absent(path) => Ok(is_in_unchanged_directory(known, path) || is_absent(rt, path)),
+        PathTest::Absent(path) => Ok(
+            is_in_unchanged_directory(unchanged, path) || is_absent(rt, path),
+        ),
         PathTest::File(path) => Ok(is_file(rt, path)),
         PathTest::Directory(path) => Ok(is_directory(rt, path)),
         PathTest::Searched { path, place } => is_searched_at(rt, searched, path, *place),
         PathTest::Plain(path) => Ok(
-            is_in_unchanged_directory(known, path) || is_plain_file(rt, path),
+            is_in_unchanged_directory(unchanged, path) || is_plain_file(rt, path),
         ),
         PathTest::Real { path, real } => leads_to(rt, states, path, real),
     }
@@ -63,7 +66,7 @@ fn holds<R: Files + AllocGlobal>(
 /// The only error is lack of memory.
 pub fn first_failing<'a, R: Files + AllocGlobal>(
     rt: &R,
-    known: &PathMap<Metadata>,
+    unchanged: &HashMap<Vec<u8>, Metadata>,
     tests: &'a [PathTest],
 ) -> Result<Option<&'a PathTest>, AllocError>
     ensures { IfOk result (λ found.
@@ -73,7 +76,7 @@ pub fn first_failing<'a, R: Files + AllocGlobal>(
     // A directory counts whenever it changed.
     let mut states = PathStates::new(rt, Timestamp::new(i64::MAX, 0));
     for test in tests {
-        if !holds(rt, known, &mut searched, &mut states, test)? {
+        if !holds(rt, unchanged, &mut searched, &mut states, test)? {
             return Ok(Some(test));
         }
     }

@@ -24,7 +24,7 @@ returns g c calm is_request own =
     let input = c.args.files.now in
     let entry = c.in-Some.entry in
     let before = c.add_entry_files.new.files in
-    let statuses = c.in_ok-known.known in
+    let statuses = c.in_ok-unchanged.unchanged.files in
     let object = c.in-Some-found.object.now in
     let tests = tests_of c.args.file.now.tests.items in
     let name = string_bytes c.in_ok-name.name in
@@ -44,8 +44,8 @@ returns g c calm is_request own =
         kept = grown.kept calm.quiet;
         statuses = statuses;
         are_recorded = recorded_by environment.reads_all c.args.file.now.statuses.items c.trusted_statuses.result.now statuses
-            c.trusted_statuses.ensures.none c.trusted_statuses.ensures.all c.in_ok-known.ensures.recorded;
-        read = λ reads. c.in_ok-known.ensures.none (c.trusted_statuses.ensures.none reads);
+            c.trusted_statuses.ensures.none c.trusted_statuses.ensures.all c.in_ok-unchanged.ensures.recorded;
+        read = λ reads. c.in_ok-unchanged.ensures.none (c.trusted_statuses.ensures.none reads);
         found = found (string_bytes key.text) bytes (key_of_part environment request environment.now [] asked input.files before.files key is_request own (grown.kept calm.quiet)) is_entry;
       };
       is_name = subst (λ (i : Bytes). IsName request i entry tests object name) c.as_str-input.ensures.value
