@@ -39,8 +39,9 @@ def look(words):
     with open(os.path.join(lists, os.listdir(lists)[0]), encoding="utf-8") as file:
         # The eighth line has the programs (docs/FORMATS.md).
         programs = file.read().splitlines()[7]
-    return [os.environ["CCK_PROGRAM"], "look", os.environ["CCK_STORE"], f"--compiler={programs}", f"--directory={os.getcwd()}",
-            "--", *words[2:]]
+    store = os.environ["CCK_STORE"]
+    return [os.environ["CCK_PROGRAM"], "look", store, f"--compiler={programs}", f"--digests={store}",
+            f"--directory={os.getcwd()}", "--", *words[2:]]
 
 
 def system_calls(words):
