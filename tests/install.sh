@@ -22,7 +22,7 @@ installed() { (cd "$1" && find . ! -type d -printf '%y %m %P\n' | sort -k 3); }
 wanted() {
     for name in cck cck_cache cck_explain cckcc; do echo "f 755 bin/$name"; done
     echo 'f 644 include/cck.h'
-    for name in asked client command config miss programs recheck server size text; do echo "f 644 lib/cckcc/$name.sh"; done
+    for name in client command config miss programs rare recheck server size text; do echo "f 644 lib/cckcc/$name.sh"; done
     echo 'f 644 lib/cckcc/connect.pl'
     echo 'f 644 lib/libcck.a'
     echo 'f 644 lib/pkgconfig/cck.pc'

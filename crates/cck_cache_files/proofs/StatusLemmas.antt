@@ -29,9 +29,6 @@ nothing_known recorded p m known = let none : None ≡ Some m = sym (get-empty p
 contained : (all : List PathStatus) (i : ℕ) (status : PathStatus) → i < length all → status ≡ get_or all i status → Contains (statuses_of all) (status_of status)
 contained all i status within is = (i, omega (arith, length-map all status_of), get_or-map status_of all i status (status_of status) within ∙ ap status_of (sym is))
 
-some_same : (m n : Metadata) → Some m ≡ Some n → m ≡ n
-some_same m n same = cc
-
 -- one of these statuses says what is known of its path now
 pub one_more_known : (all : List PathStatus) (i : ℕ) (status : PathStatus) (known : Statuses) (m : Metadata) → i < length all → status ≡ get_or all i status → m.modified ≡ Some status.modified
     → m.changed ≡ Some status.changed → AreAsRecorded (statuses_of all) known → AreAsRecorded (statuses_of all) (insert known (components status.path.items) m)
@@ -76,7 +73,8 @@ one_more_directory all i status old new key m within is same modified changed up
     (λ here.
     let there : path ≡ key.items = (bytes_eq-Decides path key.items).0 here in
     let at : directory_at new path ≡ Some m = ap (directory_at new) there ∙ updates.1 in
-    let one : m ≡ n = some_same m n (sym at ∙ found) in
+    let both : Some m ≡ Some n = sym at ∙ found in
+    let one : m ≡ n = cc in
     record {
       status = status_of status;
       is_one = contained all i status within is;

@@ -330,7 +330,9 @@ pub fn may_be_copy<R: Files + AllocGlobal>(rt: &R, path: &[u8], compared: &Compa
     };
     let is_old = changed_before(modified(&found), changed(&found), compared.since);
     let seconds = second_of(modified(&found));
-    let is_like = is_like_one(&compared.known, found.len(), seconds)
+    // Only a regular file is opened: to open a pipe may wait.
+    let is_like = found.is_file()
+        && is_like_one(&compared.known, found.len(), seconds)
         && !differs_from_all(rt, path, compared);
     may_be_taken(&found, is_old, is_like)
 }

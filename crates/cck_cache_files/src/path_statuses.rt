@@ -27,7 +27,7 @@ use std::rt::Files;
 // The bits of a file's mode with which its owner, its group and others may read it.
 const ALL_READ: u32 = 0o444;
 
-/// What the system says the same of now as when an entry was recorded.
+/// The paths of which the system says the same now as when an entry was recorded.
 #[derive(Drop)]
 pub struct UnchangedPaths {
     /// What is known of the paths of files.

@@ -1,4 +1,4 @@
-# What seldom counts in a call: bin/cckcc sources this script where LIBRARY_PATH or LPATH is set, and for a call with an
+# What is rarely needed for a call: bin/cckcc sources this script where LIBRARY_PATH or LPATH is set, and for a call with an
 # option for `native`. It has set `cck_compiler`.
 
 # Sets `cck_has_specs` if a directory of LIBRARY_PATH or LPATH has a file of specs, which the compiler reads and no key has, and
