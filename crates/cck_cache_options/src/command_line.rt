@@ -4,345 +4,329 @@ use clap::builder::ValueParser;
 use clap::{Arg, ArgAction, Command};
 use std::alloc::{AllocError, Global};
 
-// When an option is given.
+// What an argument of a command line is.
 #[derive(Clone, Copy)]
-enum Need<'a> {
-    // Always.
-    Always,
-    // It may be left out.
-    Never,
-    // It may be left out, and its value is one of these.
-    OneOf(&'a [&'a str]),
+enum Kind<'a> {
+    // A word that has to be given.
+    Word,
+    // An option that has to be given, whose value has this name.
+    Required(&'a str),
+    // An option that may be left out, whose value has this name.
+    Optional(&'a str),
 }
 
-// When an option is given, its name, that of its value, and its help.
-type OptionWords<'a> = (Need<'a>, &'a str, &'a str, &'a str);
+// What an argument is, its name, what its value is one of (anything where there is nothing), and its
+// help.
+type ArgumentWords<'a> = (Kind<'a>, &'a str, &'a [&'a str], &'a str);
 
-// The name of a word that has to be given, its help, and what it may be: any word where there is nothing.
-type WordWords<'a> = (&'a str, &'a str, &'a [&'a str]);
-
-// A list of options.
+// A list of arguments.
 #[derive(Clone, Copy)]
-enum Options {
-    // No option.
+enum Arguments {
+    // No argument.
     Empty,
+    // A store.
+    Store,
     // Those of `look`.
     Look,
     // Those of `record`.
     Record,
     // Those of `unpack`.
     Unpack,
-    // Those of `prune`.
-    Prune,
     // Those of `seal`.
     Seal,
+    // Those of `prune`.
+    Prune,
+    // Those of `inspect`.
+    Inspect,
 }
 
-// A list of words that have to be given.
-#[derive(Clone, Copy)]
-enum Words {
-    // No word.
-    Empty,
-    // A store.
-    Store,
-    // A store, and a file in it.
-    StoreAndFile,
-    // A kind and a name.
-    KindAndName,
-}
+// A command: its name, what it does, its arguments, and whether the words of a compiler's call come
+// after them.
+type CommandWords<'a> = (&'a str, &'a str, Arguments, bool);
 
-// A command: its name, what it does, its options and words, and whether the words of a compiler's call
-// come after its own.
-type CommandWords<'a> = (&'a str, &'a str, Options, Words, bool);
+const STORE: ArgumentWords<'static> = (Kind::Word, "STORE", &[], "The directory of the store");
 
-static STORE: [WordWords<'static>; 1] = [("STORE", "The directory of the store", &[])];
+static STORE_ALONE: [ArgumentWords<'static>; 1] = [STORE];
 
-static STORE_AND_FILE: [WordWords<'static>; 2] = [
-    ("STORE", "The directory of the store", &[]),
+static INSPECT: [ArgumentWords<'static>; 2] = [
+    STORE,
     (
+        Kind::Word,
         "WORD",
+        &[],
         "A preprocessor key, the name of an object, or a path with a slash",
-        &[],
     ),
 ];
 
-static KIND_AND_NAME: [WordWords<'static>; 2] = [
-    ("KIND", "The kind of the file", &["entry", "object"]),
+static CALL: [ArgumentWords<'static>; 5] = [
     (
-        "NAME",
-        "The preprocessor key, or the name of the object",
-        &[],
-    ),
-];
-
-static CALL: [OptionWords<'static>; 5] = [
-    (
-        Need::Never,
+        Kind::Optional("PATHS"),
         "compiler",
-        "PATHS",
+        &[],
         "The programs that the compiler runs, with colons between them",
     ),
     (
-        Need::Never,
+        Kind::Optional("COMPILER"),
         "driver",
-        "COMPILER",
+        &[],
         "The compiler as it is called, whose programs the store keeps; in place of --compiler",
     ),
-    (Need::Always, "directory", "DIR", "The working directory"),
     (
-        Need::Never,
+        Kind::Required("DIR"),
+        "directory",
+        &[],
+        "The working directory",
+    ),
+    (
+        Kind::Optional("STORE"),
         "digests",
-        "STORE",
+        &[],
         "Counts the programs by their contents, whose digests this store keeps",
     ),
     (
-        Need::Never,
+        Kind::Optional("DIR"),
         "base",
-        "DIR",
+        &[],
         "The base directory: an object that does not depend on it is shared with other base directories",
     ),
 ];
 
-const SERVER: OptionWords<'static> = (
-    Need::OneOf(&["keep", "only"]),
+const SERVER: ArgumentWords<'static> = (
+    Kind::Optional("MODE"),
     "server",
-    "MODE",
+    &["keep", "only"],
     "Asks a server: after the store, which keeps what the server has (keep), or nothing but the server (only)",
 );
 
-const ADDRESS: OptionWords<'static> = (
-    Need::Never,
+const ADDRESS: ArgumentWords<'static> = (
+    Kind::Optional("FILE"),
     "address",
-    "FILE",
+    &[],
     "The address of the server; without it lines on standard output ask for what the server has, and its replies are read on standard input",
 );
 
-const VERIFY_KEY: OptionWords<'static> = (
-    Need::Never,
+const VERIFY_KEY: ArgumentWords<'static> = (
+    Kind::Optional("FILE"),
     "verify-key",
-    "FILE",
+    &[],
     "The key without whose signature no value of the server is used",
 );
 
-static UNPACK: [OptionWords<'static>; 7] = [
-    (Need::Always, "name", "NAME", "The name of the object"),
+static UNPACK: [ArgumentWords<'static>; 8] = [
+    STORE,
     (
-        Need::Never,
+        Kind::Required("NAME"),
+        "name",
+        &[],
+        "The name of the object",
+    ),
+    (
+        Kind::Optional("FILE"),
         "packed",
-        "FILE",
+        &[],
         "The object file; in place of --server",
     ),
     SERVER,
     ADDRESS,
     VERIFY_KEY,
-    (Need::Always, "out", "FILE", "Where the object is written"),
     (
-        Need::Never,
+        Kind::Required("FILE"),
+        "out",
+        &[],
+        "Where the object is written",
+    ),
+    (
+        Kind::Optional("FILE"),
         "dependencies",
-        "FILE",
+        &[],
         "Where the dependency file is written",
     ),
 ];
 
-static LOOK: [OptionWords<'static>; 3] = [SERVER, ADDRESS, VERIFY_KEY];
+static LOOK: [ArgumentWords<'static>; 4] = [STORE, SERVER, ADDRESS, VERIFY_KEY];
 
-static SEAL: [OptionWords<'static>; 2] = [
+static SEAL: [ArgumentWords<'static>; 4] = [
     (
-        Need::Never,
+        Kind::Word,
+        "KIND",
+        &["entry", "object"],
+        "The kind of the file",
+    ),
+    (
+        Kind::Word,
+        "NAME",
+        &[],
+        "The preprocessor key, or the name of the object",
+    ),
+    (
+        Kind::Optional("FILE"),
         "sign-key",
-        "FILE",
+        &[],
         "The key with which the value is signed",
     ),
     (
-        Need::Never,
+        Kind::Optional("BYTES"),
         "expanded",
-        "BYTES",
+        &[],
         "The number of bytes of the file of which standard input is a frame of zstd",
     ),
 ];
 
-static RECORD: [OptionWords<'static>; 10] = [
+static RECORD: [ArgumentWords<'static>; 11] = [
+    STORE,
     (
-        Need::Always,
+        Kind::Required("STAMP"),
         "since",
-        "STAMP",
+        &[],
         "The time that the look-up printed",
     ),
     (
-        Need::Always,
+        Kind::Required("PKEY"),
         "preprocessor-key",
-        "PKEY",
+        &[],
         "The preprocessor key that the look-up printed",
     ),
     (
-        Need::Always,
+        Kind::Required("FILE"),
         "search",
-        "FILE",
+        &[],
         "What `-E -v` printed on standard error",
     ),
     (
-        Need::Never,
+        Kind::Optional("FILE"),
         "compiled",
-        "FILE",
+        &[],
         "The object that the compiler wrote; without it the entry alone is recorded",
     ),
     (
-        Need::Never,
+        Kind::Optional("FILE"),
         "messages",
-        "FILE",
+        &[],
         "What the compilation printed on standard error",
     ),
     (
-        Need::Never,
+        Kind::Optional("FILE"),
         "dependencies",
-        "FILE",
+        &[],
         "The dependency file that the compilation wrote",
     ),
     (
-        Need::Never,
+        Kind::Optional("FILE"),
         "assembled",
-        "FILE",
+        &[],
         "The dependency file that the assembler wrote",
     ),
     (
-        Need::Never,
+        Kind::Optional("FILE"),
         "opened",
-        "FILE",
+        &[],
         "What the compiler opened, as a dependency file has it; without it --dependencies counts",
     ),
     (
-        Need::Never,
+        Kind::Optional("FILE"),
         "entry-out",
-        "FILE",
+        &[],
         "Where the entry file is written in place of the store's",
     ),
     (
-        Need::Never,
+        Kind::Optional("FILE"),
         "packed-out",
-        "FILE",
+        &[],
         "Where the object file is written in place of the store's",
     ),
 ];
 
-static PRUNE: [OptionWords<'static>; 1] = [(
-    Need::Always,
-    "max-size",
-    "BYTES",
-    "The most bytes that the files may have together",
-)];
+static PRUNE: [ArgumentWords<'static>; 2] = [
+    STORE,
+    (
+        Kind::Required("BYTES"),
+        "max-size",
+        &[],
+        "The most bytes that the files may have together",
+    ),
+];
 
 static COMMANDS: [CommandWords<'static>; 11] = [
     (
         "preprocessor-key",
         "Prints the preprocessor key",
-        Options::Empty,
-        Words::Empty,
+        Arguments::Empty,
         true,
     ),
     (
         "look",
         "Writes the object from the store",
-        Options::Look,
-        Words::Store,
+        Arguments::Look,
         true,
     ),
     (
         "record",
         "Records a compilation, whose preprocessed text is read from standard input",
-        Options::Record,
-        Words::Store,
+        Arguments::Record,
         true,
     ),
     (
         "why",
         "Prints which paths keep an entry from matching",
-        Options::Empty,
-        Words::Store,
+        Arguments::Store,
         true,
     ),
     (
         "unpack",
         "Writes the object that an object file has",
-        Options::Unpack,
-        Words::Store,
+        Arguments::Unpack,
         false,
     ),
     (
         "seal",
         "Writes a value of a server, of the bytes that are read from standard input",
-        Options::Seal,
-        Words::KindAndName,
+        Arguments::Seal,
         false,
     ),
     (
         "stats",
         "Prints what a store has, and what was counted",
-        Options::Empty,
-        Words::Store,
+        Arguments::Store,
         false,
     ),
     (
         "prune",
         "Removes the files that were used longest ago",
-        Options::Prune,
-        Words::Store,
+        Arguments::Prune,
         false,
     ),
     (
         "clear",
         "Removes all entries and objects",
-        Options::Empty,
-        Words::Store,
+        Arguments::Store,
         false,
     ),
     (
         "verify",
         "Tests all entries and objects, and removes those that are damaged",
-        Options::Empty,
-        Words::Store,
+        Arguments::Store,
         false,
     ),
     (
         "inspect",
         "Prints what files of a store say",
-        Options::Empty,
-        Words::StoreAndFile,
+        Arguments::Inspect,
         false,
     ),
 ];
 
-impl Options {
-    // The options of this list.
-    fn listed(self) -> &'static [OptionWords<'static>] {
+impl Arguments {
+    // The arguments of this list.
+    fn listed(self) -> &'static [ArgumentWords<'static>] {
         match self {
             Self::Empty => &[],
+            Self::Store => &STORE_ALONE,
             Self::Look => &LOOK,
             Self::Record => &RECORD,
             Self::Unpack => &UNPACK,
-            Self::Prune => &PRUNE,
             Self::Seal => &SEAL,
-        }
-    }
-}
-
-impl Words {
-    // The words of this list.
-    fn listed(self) -> &'static [WordWords<'static>] {
-        match self {
-            Self::Empty => &[],
-            Self::Store => &STORE,
-            Self::StoreAndFile => &STORE_AND_FILE,
-            Self::KindAndName => &KIND_AND_NAME,
-        }
-    }
-}
-
-impl<'a> Need<'a> {
-    // The names of which the value is one, or nothing where it may be any.
-    fn names(self) -> &'a [&'a str] {
-        match self {
-            Self::OneOf(names) => names,
-            Self::Always | Self::Never => &[],
+            Self::Prune => &PRUNE,
+            Self::Inspect => &INSPECT,
         }
     }
 }
@@ -356,47 +340,30 @@ fn parser_of<'a>(names: &'a [&'a str]) -> ValueParser<'a> {
     }
 }
 
-// An option that takes a value.
-fn option_of<'a>(alloc: Global, words: OptionWords<'a>) -> Arg<'a> {
-    let (need, name, value, help) = words;
-    Arg::new(alloc, name)
-        .long(name)
-        .value_name(value)
-        .action(ArgAction::Set)
+// The argument of these words.
+fn argument_of<'a>(alloc: Global, words: ArgumentWords<'a>) -> Arg<'a> {
+    let (kind, name, names, help) = words;
+    let argument = Arg::new(alloc, name)
         .help(help)
-        .required(matches!(need, Need::Always))
-        .value_parser(parser_of(need.names()))
-}
-
-// Adds these options, which take a value each.
-fn push_options<'a>(
-    alloc: Global,
-    arguments: &mut Vec<Arg<'a>>,
-    options: &[OptionWords<'a>],
-) -> Result<(), AllocError> {
-    for option in options {
-        arguments.push(option_of(alloc, *option))?;
+        .required(!matches!(kind, Kind::Optional(_)))
+        .value_parser(parser_of(names));
+    match kind {
+        Kind::Word => argument,
+        Kind::Required(value) | Kind::Optional(value) => argument
+            .long(name)
+            .value_name(value)
+            .action(ArgAction::Set),
     }
-    Ok(())
 }
 
-// A word that has to be given.
-fn word_of<'a>(alloc: Global, words: WordWords<'a>) -> Arg<'a> {
-    let (name, help, names) = words;
-    Arg::new(alloc, name)
-        .required(true)
-        .help(help)
-        .value_parser(parser_of(names))
-}
-
-// Adds these words, which have to be given.
-fn push_words<'a>(
+// Adds the arguments of these words.
+fn push_arguments<'a>(
     alloc: Global,
     arguments: &mut Vec<Arg<'a>>,
-    words: &[WordWords<'a>],
+    words: &[ArgumentWords<'a>],
 ) -> Result<(), AllocError> {
-    for word in words {
-        arguments.push(word_of(alloc, *word))?;
+    for argument in words {
+        arguments.push(argument_of(alloc, *argument))?;
     }
     Ok(())
 }
@@ -412,30 +379,18 @@ fn compiler_arguments<'a>(alloc: Global) -> Arg<'a> {
 
 // Adds the words of a compiler's call, which come after a command's own.
 fn push_call<'a>(alloc: Global, arguments: &mut Vec<Arg<'a>>) -> Result<(), AllocError> {
-    push_options(alloc, arguments, &CALL)?;
+    push_arguments(alloc, arguments, &CALL)?;
     Ok(arguments.push(compiler_arguments(alloc))?)
-}
-
-// The arguments of a command.
-fn arguments_of<'a>(
-    alloc: Global,
-    options: Options,
-    words: Words,
-    has_call: bool,
-) -> Result<Vec<Arg<'a>>, AllocError> {
-    let mut arguments = Vec::new(alloc);
-    push_options(alloc, &mut arguments, options.listed())?;
-    push_words(alloc, &mut arguments, words.listed())?;
-    if has_call {
-        push_call(alloc, &mut arguments)?;
-    }
-    Ok(arguments)
 }
 
 // The command of these words.
 fn command_of<'a>(alloc: Global, words: CommandWords<'a>) -> Result<Command<'a>, AllocError> {
-    let (name, about, options, words, has_call) = words;
-    let arguments = arguments_of(alloc, options, words, has_call)?;
+    let (name, about, listed, has_call) = words;
+    let mut arguments = Vec::new(alloc);
+    push_arguments(alloc, &mut arguments, listed.listed())?;
+    if has_call {
+        push_call(alloc, &mut arguments)?;
+    }
     Command::new(alloc, name).about(about).args(arguments)
 }
 

@@ -466,24 +466,6 @@ fn judged<'a>(alloc: Global, matches: &ArgMatches<'a>) -> Result<Outcome<'a>, Al
     })
 }
 
-// The error for wrong words.
-fn refused<'a>(program: &mut Command<'_>, kind: ErrorKind, text: &str) -> Result<Task<'a>, Error> {
-    Err(program.error(kind, text)?)
-}
-
-// Reads what these words ask for by a command line.
-fn task_by<'a>(
-    alloc: Global,
-    program: &mut Command<'a>,
-    words: &'a [String],
-) -> Result<Task<'a>, Error> {
-    let matches = program.try_get_matches_from_mut(words)?;
-    match judged(alloc, &matches)? {
-        Outcome::Task(task) => Ok(task),
-        Outcome::Wrong(kind, text) => refused(program, kind, text),
-    }
-}
-
 // What is printed for an error of clap, if it is not lack of memory.
 fn explained(alloc: Global, error: &Error) -> Result<Explanation, AllocError> {
     if error.kind() == ErrorKind::OutOfMemory {
@@ -495,6 +477,40 @@ fn explained(alloc: Global, error: &Error) -> Result<Explanation, AllocError> {
     })
 }
 
+// What is printed for words that are wrong in this way.
+fn refused(
+    alloc: Global,
+    program: &mut Command<'_>,
+    kind: ErrorKind,
+    text: &str,
+) -> Result<Explanation, AllocError> {
+    let error = program.error(kind, text)?;
+    explained(alloc, &error)
+}
+
+// What is found of these words by a command line.
+fn outcome_by<'a>(
+    alloc: Global,
+    program: &mut Command<'a>,
+    words: &'a [String],
+) -> Result<Outcome<'a>, Error> {
+    let matches = program.try_get_matches_from_mut(words)?;
+    Ok(judged(alloc, &matches)?)
+}
+
+// Reads what these words ask for by a command line, or returns what is printed in place of that.
+fn task_by<'a>(
+    alloc: Global,
+    program: &mut Command<'a>,
+    words: &'a [String],
+) -> Result<Result<Task<'a>, Explanation>, AllocError> {
+    match outcome_by(alloc, program, words) {
+        Ok(Outcome::Task(task)) => Ok(Ok(task)),
+        Ok(Outcome::Wrong(kind, text)) => Ok(Err(refused(alloc, program, kind, text)?)),
+        Err(error) => Ok(Err(explained(alloc, &error)?)),
+    }
+}
+
 /// Reads what these words ask for, or returns what is printed in place of that: for wrong words, among
 /// them a stamp that is no time, for `--help` and for `--version`. The first word is the program's name.
 ///
@@ -504,8 +520,5 @@ pub fn task_of<'a>(
     words: &'a [String],
 ) -> Result<Result<Task<'a>, Explanation>, AllocError> {
     let mut program = program(alloc)?;
-    match task_by(alloc, &mut program, words) {
-        Ok(task) => Ok(Ok(task)),
-        Err(error) => Ok(Err(explained(alloc, &error)?)),
-    }
+    task_by(alloc, &mut program, words)
 }

@@ -59,6 +59,6 @@ pub use mini_compiler::MiniCompiler;
 pub use printing::print;
 pub use program::{engine, refuse};
 pub use result_lines::add_result_lines;
-pub use run::{store_of, zone_at};
+pub use run::store_of;
 pub use script::{RunOptions, Script, ScriptError};
 pub use status::Status;

@@ -1,12 +1,10 @@
 //! The calls of a script, made one after another.
-ghost use Rattle.std.specs.Prelude.{◌≡◌, ◌↔◌, ◌∷◌, [], List, ℤ, IfOk, IsOk};
+ghost use Rattle.std.specs.Prelude.{◌≡◌, ◌∷◌, [], List, ℤ, IfOk};
 ghost use Rattle.std.specs.Option.{option_to_list, unwrap_or};
 ghost use Rattle.cck_files.specs.ArmedCalls.{new_armed};
 ghost use Rattle.cck_path.specs.Bytes.{lists_of};
 ghost use Rattle.cck_util.specs.MapStore.{empty_state};
-ghost use Rattle.jiff_core.specs.Timestamp.{IsOffsetSeconds};
-ghost use Rattle.jiff.specs.Words.{fixed_zone, plain_zone};
-ghost use Rattle.jiff.specs.Types.{Offset as PlainOffset};
+ghost use Rattle.jiff.specs.Words.{plain_zone};
 ghost use Rattle.cck_script.specs.Calls.{call_after, call_of_command};
 ghost use Rattle.cck_script.specs.Lines.{Line};
 ghost use Rattle.cck_command.specs.ScriptSeen.{lines_of};
@@ -25,10 +23,10 @@ use crate::result_lines::add_result_lines;
 use crate::script::Script;
 use c_cache_keys::{CCompiler, Call, MapStore, run_calls};
 use cck_files::MapFiles;
-use cck_include::PreprocessorCacheModeConfig;
+use cck_include::{PreprocessorCacheModeConfig, zone_at};
 use cck_script::{Command, ScriptCall, Surroundings};
 use cck_util::HashState;
-use jiff::tz::{Offset, TimeZone};
+use jiff::tz::TimeZone;
 use std::alloc::Global;
 
 /// Makes the calls of a script in their order, on a store that is empty at first. Returns one line
@@ -47,7 +45,9 @@ pub fn run_script<H: HashState>(alloc: Global, script: Script) -> Result<Vec<u8>
     let options = script.options(alloc)?;
     let mut store = store_of(alloc, options.forget_at, options.fail_at);
     let compiler = compiler_of::<H>(alloc, options.zone_offset)?;
-    let zone = zone_at(options.zone_offset)?;
+    let Some(zone) = zone_at(options.zone_offset) else {
+        return Err(Failed);
+    };
     let context = RunContext {
         compiler,
         zone,
@@ -145,20 +145,6 @@ fn make_call<H: HashState>(
         variables: vars,
         places,
     })
-}
-
-/// Returns the zone with a fixed offset of `seconds` seconds east of UTC.
-///
-/// [`Failed`] is returned exactly for an offset of more than 93599 seconds, 25:59:59, to either side.
-pub fn zone_at(seconds: i32) -> Result<TimeZone<'static>, Failed>
-    ensures succeeds { IsOk result ↔ IsOffsetSeconds seconds }
-    ensures zone { IfOk result (λ zone. (offset : PlainOffset) × (offset.seconds ≡ seconds)
-        × (plain_zone zone ≡ fixed_zone offset)) }
-{
-    match Offset::from_seconds(seconds) {
-        Ok(offset) => Ok(TimeZone::fixed(offset)),
-        Err(_) => Err(Failed),
-    }
 }
 
 /// Returns an empty store that loses all that it holds when the get or put whose number is `forget_at`

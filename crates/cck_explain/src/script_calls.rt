@@ -23,11 +23,10 @@ use crate::note::{push_head, push_note};
 use crate::watched_store::WatchedStore;
 use c_cache_keys::{Call, run_calls};
 use cck_command::{
-    Failed, MiniCompiler, Script, ScriptError, add_result_lines, compiler_of, ready_calls,
-    store_of, zone_at,
+    Failed, MiniCompiler, Script, ScriptError, add_result_lines, compiler_of, ready_calls, store_of,
 };
 use cck_files::MapFiles;
-use cck_include::{JudgeContext, PreprocessorCacheModeConfig};
+use cck_include::{JudgeContext, PreprocessorCacheModeConfig, zone_at};
 use cck_util::HashState;
 use jiff::tz::TimeZone;
 use std::alloc::{AllocError, Global};
@@ -108,7 +107,9 @@ fn explain_calls<H: HashState>(alloc: Global, script: Script) -> Result<Vec<u8>,
     let options = script.options(alloc)?;
     let mut store = WatchedStore::new(alloc, store_of(alloc, options.forget_at, options.fail_at));
     let compiler = compiler_of::<H>(alloc, options.zone_offset)?;
-    let zone = zone_at(options.zone_offset)?;
+    let Some(zone) = zone_at(options.zone_offset) else {
+        return Err(Failed);
+    };
     let context = ListingContext {
         zone,
         basedirs: options.basedirs,

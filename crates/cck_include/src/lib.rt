@@ -32,6 +32,7 @@
 //!
 //! - [`local_time_part`] returns the time part of a file, for a call time, a time zone and the
 //!   variables of the environment, which are all passed.
+//! - [`zone_at`] returns the time zone of a fixed offset.
 //! - [`PreprocessorCacheModeConfig`] has the options.
 //!
 //! ```rust
@@ -90,6 +91,7 @@ mod mark;
 mod part;
 mod recorded;
 mod search;
+mod zone;
 
 pub use config::PreprocessorCacheModeConfig;
 pub use gathering::gather;
@@ -100,3 +102,4 @@ pub use line::{Line, read_line};
 pub use mark::{Mark, Markers};
 pub use part::local_time_part;
 pub use recorded::{digest_with_metadata, recorded_digest};
+pub use zone::zone_at;

@@ -4,9 +4,9 @@ use crate::script_cases::commands::write_number;
 use c_cache_keys::cck_entry::PreprocessorCacheEntry;
 use c_cache_keys::{Call, HashResult, KeyError, MapStore, PreprocessorStore, run_calls};
 use cck_command::{
-    Failed, MiniCompiler, RunOptions, Script, ScriptError, compiler_of, ready_calls, zone_at,
+    Failed, MiniCompiler, RunOptions, Script, ScriptError, compiler_of, ready_calls,
 };
-use cck_include::PreprocessorCacheModeConfig;
+use cck_include::{PreprocessorCacheModeConfig, zone_at};
 use cck_script::copy_variables;
 use cck_util::{MapFiles, Sha256State, UtilError};
 use jiff::tz::TimeZone;
@@ -80,7 +80,7 @@ fn calls_of(alloc: Global, zone_offset: i32, script: Script) -> Result<Vec<MiniC
 
 // The list of the calls of a script, under these options.
 fn list_of(alloc: Global, options: RunOptions, script: Script) -> Result<List, Failed> {
-    let zone = zone_at(options.zone_offset)?;
+    let zone = zone_at(options.zone_offset).ok_or(Failed)?;
     let calls = calls_of(alloc, options.zone_offset, script)?;
     Ok(List {
         alloc,

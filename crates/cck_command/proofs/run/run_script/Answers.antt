@@ -25,7 +25,7 @@ loop-command-preserved g c =
     let hash = g.H.HashState.hash in
     let lines = lines_of c.args.script in
     one_line_more _ _ lines _ _ _ _ _ c.loop-command.invariant
-    (ap (map line_of) c.in-Some.ensures.steps.0)
+    (ap (map line_of) c.in-Some-command.ensures.steps.0)
     c.in_ok-surroundings-2.ensures.after
     (λ earlier asked are made.
     made_joined hash (zone_of lines) _ asked _ _ _ _ [] _ _ made
@@ -34,5 +34,6 @@ loop-command-preserved g c =
 pub returns : goal.returns
 returns g c =
     let lines = lines_of c.args.script in
-    ran g.H.HashState.hash lines _ c.in_ok-zone.ensures.zone.0 _ _ _ g.met.H.HashState.length_hash (c.in_ok-zone.ensures.zone.1 ∙ (search rules)) c.in_ok-zone.ensures.zone.2 c.in_ok-options.ensures.basedirs
+    let zone = rw c.in-Some.is at c.zone_at.ensures.zone in
+    ran g.H.HashState.hash lines _ zone.0 _ _ _ g.met.H.HashState.length_hash (zone.1 ∙ (search rules)) zone.2 c.in_ok-options.ensures.basedirs
     (none_left _ lines c.loop-command.command-iterator.rest.items _ (sym (c.loop-command.command-iterator.rest.ok.0) ∙ c.in-None.ensures.steps.0) c.loop-command.invariant)

@@ -28,25 +28,26 @@ loop-call-preserved g c =
     let lines = lines_of c.args.script in
     let of = compiler_in hash (zone_of lines) _ _ (search rules) c.in_ok-compiler.ensures in
     one_more hash (zone_of lines) _ c.in_ok-compiler.compiler (script_calls lines) (armed_by lines) _ _ _ _ _ _ _ _ _ c.loop-call.invariant
-    c.in-Some.ensures.steps.0 c.saturating_add-number.ensures
+    c.in-Some-call.ensures.steps.0 c.saturating_add-number.ensures
     (λ front asked ready counts before. c.in_ok-explain_call.ensures (zone_of lines) c.in_ok-compiler.compiler front asked (armed_by lines) of ready counts before)
 
 pub returns : goal.returns
 returns g c =
     let hash = g.H.HashState.hash in
     let lines = lines_of c.args.script in
+    let zone = rw c.in-Some.is at c.zone_at.ensures.zone in
     let noted = all_noted hash (zone_of lines) _ c.in_ok-compiler.compiler (script_calls lines) (armed_by lines) _ _ _ c.loop-call.call-iterator.rest.items
     (sym (c.loop-call.call-iterator.rest.ok.0) ∙ c.in-None.ensures.steps.0) c.loop-call.invariant in
     record {
       call_results = noted.call_results;
-      ran = ran hash lines _ c.in_ok-zone.ensures.zone.0 _ _ _ g.met.H.HashState.length_hash (c.in_ok-zone.ensures.zone.1 ∙ (search rules)) c.in_ok-zone.ensures.zone.2 c.in_ok-options.ensures.basedirs
+      ran = ran hash lines _ zone.0 _ _ _ g.met.H.HashState.length_hash (zone.1 ∙ (search rules)) zone.2 c.in_ok-options.ensures.basedirs
           (record { done = noted.done; call_results = noted.call_results; calls = noted.calls; run = noted.run; printed_are = refl });
-      zone = c.in_ok-zone.ensures.zone.0;
-      zone_is = c.in_ok-zone.ensures.zone.1 ∙ (search rules);
+      zone = zone.0;
+      zone_is = zone.1 ∙ (search rules);
       done = noted.done;
       calls = noted.calls;
       notes = noted.notes;
-      each = noted_in hash _ _ _ _ noted.done noted.notes c.in_ok-zone.ensures.zone.2 c.in_ok-options.ensures.basedirs noted.each;
+      each = noted_in hash _ _ _ _ noted.done noted.notes zone.2 c.in_ok-options.ensures.basedirs noted.each;
       count = noted.count;
       listed = noted.listed;
     }
