@@ -196,8 +196,8 @@ fn compare_components(a: Components<'_>, b: Components<'_>) -> Ordering
     a.cmp(b)
 }
 
-// The number of bytes at the beginning that are the same in both texts.
-fn common_prefix_len(a: &[u8], b: &[u8]) -> usize
+/// The number of bytes at the beginning that are the same in both texts. It allocates no memory.
+pub fn common_prefix_len(a: &[u8], b: &[u8]) -> usize
     ensures count { result ≡ common_prefix_len nat_eq a.now b.now }
     ensures in_first { result ≤ length a.now }
     ensures in_second { result ≤ length b.now }
