@@ -205,7 +205,6 @@ cck_reading='
         sub(/.*"/, "", flags)
         names[id] = name = substr(name, 2, length(name) - length(flags) - 2)
         step_of[id] = substr(flags, 1, 2)
-        is_system[id] = flags ~ / 3/
         if (index(name, "\\")) reason = "other-file"
         place = name
         if (is_clang) sub(/^\/usr\/bin\/\.\.\/lib\/gcc\/[^\/]+\/[0-9]+\/\.\.\/\.\.\/\.\.\/\.\.\/include\//, "/usr/include/", place)
@@ -228,10 +227,8 @@ cck_reading='
         }
         if (step == " 1") {
             found = 1
-            if (owns[depth] && is_of_project[id]) reason = "target-pragma"
+            if (owns[depth] && is_of_project[id]) leaves_own = 1
             owns[++depth] = is_own[id]
-            if (name in systems && systems[name] != is_system[id]) reason = "other-file"
-            systems[name] = is_system[id]
         } else if (step == " 2") {
             if (depth > 0) depth--
         } else if (name != current) {
@@ -424,8 +421,7 @@ cck_reading='
 # In C a pragma that sets macros of the target, or attributes that are known, is run by the compiler alone. The compiler's own
 # headers set them back to what the target has, but for one macro (`changes_targets`), and include none of the project. The
 # compiler knows declarations, by which `__has_builtin` is 0, and more builtin functions of the target after an attribute,
-# whose names may be pasted. A header that is found in a directory of system headers only later has its shorter name from
-# then on. A file between `<` and `>` is named as what the compiler defines itself. A backslash or a quote in a name has a
+# whose names may be pasted. A file between `<` and `>` is named as what the compiler defines itself. A backslash or a quote in a name has a
 # backslash before it, which nothing takes away. A line directive enters no file; a marker in a source, or in a raw string
 # over lines, is not told from one of gcc. After the input has begun, a marker with another name that neither enters nor
 # leaves a file is of a line directive. With OpenMP or OpenACC the compiler expands macros in a pragma, which an operator
@@ -515,7 +511,7 @@ cck_judging='
             read_file(text)
             if (unread || is_pasted()) reason = "header-test"
         }
-        if ((marks || hides) && doubts != "") reason = "target-pragma"
+        if ((marks || hides || leaves_own) && doubts != "") reason = "target-pragma"
         if (ENVIRON["cck_targets"] != "") targets = 1
         if (!asks && is_c && reason == "" && has_asked(text)) asks = 1
         if (!is_c || is_clang) asks = 0

@@ -6,7 +6,7 @@ use Rattle.cck_cache_files.specs.SearchedPaths.{AreSearched, HasDoubtfulDirector
 use Rattle.cck_cache_files.specs.TestsAt.{AreTestsAt, IsDoubtfulAt}
 use Rattle.cck_cache_text.specs.Absent.{AreAbsentNames, IsAbsentName, IsListed}
 use Rattle.cck_cache_text.specs.Left.{IsLeft}
-use Rattle.cck_cache_text.specs.Names.{is_system_name}
+use Rattle.cck_cache_text.specs.Names.{IsSystem, is_system_name}
 use Rattle.cck_cache_rules.specs.PathTest.{Test, Directory, tests_of}
 use Rattle.cck_cache_text.specs.SearchList.{IsSearchList, SearchFields}
 use Rattle.cck_cache_files.specs.RealPaths.{ArePlaced, IsPathOf}
@@ -27,7 +27,7 @@ pub record AreTestsAfter (directory text : Bytes) (first tests : List Test) : Ty
   pub fronts : List Bytes
   pub fronts_are : (marks : List Mark) → Marks true text marks → AreLeft directory marks fronts
   pub links : LinkTests
-  pub links_are : (marks : List Mark) → Marks true text marks → ArePlaced (IsPathOf directory (λ name. IsTrue (is_system_name marks name))) links
+  pub links_are : (marks : List Mark) → Marks true text marks → ArePlaced (IsPathOf directory (IsSystem marks text)) links
   pub tests_are : tests ≡ ((first ++ map Directory fronts) ++ tests_of links.plain.items) ++ tests_of links.real.items
 
 -- The tests of the paths of a text and of the headers that it and these arguments include, by what the compiler printed of its directories. The list of directories can be read, each system header is in one
@@ -62,7 +62,7 @@ pub record HasUnknownHeader (text : Bytes) (arguments : List Bytes) (printed : B
 
 -- a system header is named, of which it is not known where it is
 abbrev pub HasUnknownLink : Bytes → Type 0
-HasUnknownLink text = (marks : List Mark) → Marks true text marks → (name : Bytes) × IsTrue (is_system_name marks name)
+HasUnknownLink text = (marks : List Mark) → Marks true text marks → (name : Bytes) × IsSystem marks text name
 
 -- tests after these; or none, where a system header is named of which it is not known where it is
 abbrev pub AreTestsAfterIfKnown : Bytes → Bytes → List Test → Option (List Test) → Type 0

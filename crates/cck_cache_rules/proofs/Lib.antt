@@ -8,6 +8,7 @@ mod PathStatusLemmas
 mod EntryFileLemmas
 pub mod EqualityLemmas
 mod Examples
+mod FrontCodingLemmas
 pub mod ListLemmas
 mod ObjectNameLemmas
 pub mod ReadingLemmas

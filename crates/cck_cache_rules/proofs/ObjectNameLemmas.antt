@@ -8,14 +8,16 @@ use Rattle.std.specs.List.{starts_with}
 use Rattle.std.specs.Prelude.{nat_eq, length, drop}
 use Rattle.cck_digest.specs.Frames.{frame, framed_list}
 use Rattle.cck_digest.proofs.FrameLemmas.{frame_reads_back, framed_list_reads_back}
+use Rattle.cck_cache_rules.proofs.FrontCodingLemmas.{front_bytes_read_back, front_coded_tells}
+use Rattle.cck_cache_rules.specs.FrontCoding.{framed_front_coded, front_bytes, front_coded}
 use Rattle.cck_cache_rules.specs.ObjectName.{MaterialTellsObject, ObjectParts, after_base, is_inside, object_material}
 
 -- the material, nested to the right
 material-nested : (p : ObjectParts) → object_material p
-    ≡ frame p.key ++ (frame p.input ++ (framed_list frame p.outside ++ (framed_list frame p.inside ++ (framed_list frame p.tests_outside ++ framed_list frame p.tests_inside))))
+    ≡ frame p.key ++ (frame p.input ++ (framed_list frame p.outside ++ (framed_list frame p.inside ++ (framed_front_coded p.tests_outside ++ framed_front_coded p.tests_inside))))
 material-nested p =
-    parted (frame p.key) (frame p.input) (framed_list frame p.outside) (framed_list frame p.inside) (framed_list frame p.tests_outside)
-    (framed_list frame p.tests_inside)
+    parted (frame p.key) (frame p.input) (framed_list frame p.outside) (framed_list frame p.inside) (framed_front_coded p.tests_outside)
+    (framed_front_coded p.tests_inside)
   where
     parted : (a b c d e f : List ℕ) → a ++ b ++ c ++ d ++ e ++ f ≡ a ++ (b ++ (c ++ (d ++ (e ++ f))))
     parted a b c d e f = simp append_assoc
@@ -26,11 +28,13 @@ parts_from_material p q same =
     let (inputs, after_input) = frame_reads_back p.input q.input _ _ after_key in
     let (outside, after_outside) = framed_list_reads_back frame frame_reads_back p.outside q.outside _ _ after_input in
     let (inside, after_inside) = framed_list_reads_back frame frame_reads_back p.inside q.inside _ _ after_outside in
-    let (tests_outside, after_tests) = framed_list_reads_back frame frame_reads_back p.tests_outside q.tests_outside _ _ after_inside in
-    let (tests_inside, _) =
-    framed_list_reads_back frame frame_reads_back p.tests_inside q.tests_inside [] []
-    (append-nil (framed_list frame p.tests_inside) ∙ (after_tests ∙ sym (append-nil (framed_list frame q.tests_inside))))
+    let (parts_outside, after_tests) = framed_list_reads_back front_bytes front_bytes_read_back (front_coded [] p.tests_outside) (front_coded [] q.tests_outside) _ _ after_inside in
+    let (parts_inside, _) =
+    framed_list_reads_back front_bytes front_bytes_read_back (front_coded [] p.tests_inside) (front_coded [] q.tests_inside) [] []
+    (append-nil (framed_front_coded p.tests_inside) ∙ (after_tests ∙ sym (append-nil (framed_front_coded q.tests_inside))))
     in
+    let tests_outside = front_coded_tells [] p.tests_outside q.tests_outside parts_outside in
+    let tests_inside = front_coded_tells [] p.tests_inside q.tests_inside parts_inside in
     λ n. record {
       key = keys n;
       input = inputs n;

@@ -7,6 +7,7 @@ pub mod Contents
 pub mod PathStatus
 pub mod Files
 pub mod Frames
+pub mod FrontCoding
 pub mod ObjectName
 pub mod PathTest
 pub mod Reading

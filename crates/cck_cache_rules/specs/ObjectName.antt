@@ -3,6 +3,7 @@ use Rattle.std.specs.Prelude.{◌≡◌, ◌↔◌, ℕ, List, ◌++◌, Bool, f
 use Rattle.std.specs.List.{starts_with}
 use Rattle.cck_digest.specs.Digest.{digest_text}
 use Rattle.cck_digest.specs.Frames.{frame, framed_list}
+use Rattle.cck_cache_rules.specs.FrontCoding.{framed_front_coded}
 use Rattle.cck_include.specs.Include.{Include}
 use Rattle.cck_cache_rules.specs.PathTest.{Test, test_bytes, test_path, with_path}
 
@@ -40,11 +41,11 @@ pub record ObjectParts : Type 0 where
   pub tests_outside : List (List ℕ)
   pub tests_inside : List (List ℕ)
 
--- the parts, each with its length or its count before it
+-- the parts, each with its length or its count before it; the tests of each group by front coding
 abbrev pub object_material : ObjectParts → List ℕ
 object_material p =
-    frame p.key ++ frame p.input ++ framed_list frame p.outside ++ framed_list frame p.inside ++ framed_list frame p.tests_outside
-    ++ framed_list frame p.tests_inside
+    frame p.key ++ frame p.input ++ framed_list frame p.outside ++ framed_list frame p.inside ++ framed_front_coded p.tests_outside
+    ++ framed_front_coded p.tests_inside
 
 -- the parts of an object with this key, for an input, the files that a result included and tests of paths
 abbrev pub object_parts : List ℕ → List ℕ → Option (List ℕ) → List Include → List Test → ObjectParts

@@ -39,6 +39,7 @@ mod checksum;
 mod contents;
 mod entry_file;
 mod frames;
+mod front_coding;
 pub mod laws;
 mod object_file;
 mod object_names;

@@ -6,6 +6,7 @@ ghost use Rattle.cck_cache_rules.specs.ObjectName.{after_base, digests_inside, d
 ghost use Rattle.cck_cache_rules.specs.PathTest.{tests_of};
 ghost use Rattle.cck_cache_rules.specs.Reading.{byte_lists};
 
+use crate::front_coding::hash_front_coded;
 use crate::path_test::PathTest;
 use cck_digest::{Digest, HashState, UtilError, hash_len_prefixed};
 use cck_include::IncludeRef;
@@ -139,7 +140,7 @@ pub fn object_name<H: HashState>(
     hash_len_prefixed(&mut digest, input.as_bytes());
     hash_text_list(&mut digest, &digests.outside);
     hash_text_list(&mut digest, &digests.inside);
-    hash_text_list(&mut digest, &tested.outside);
-    hash_text_list(&mut digest, &tested.inside);
+    hash_front_coded(&mut digest, &tested.outside);
+    hash_front_coded(&mut digest, &tested.inside);
     digest.finish(alloc)
 }

@@ -1,8 +1,8 @@
 -- The names that lines and arguments include.
-use Rattle.std.proofs.Common.{◌≡◌, ◌≢◌, ◌∙◌, ℕ, suc, ◌+◌, ◌<◌, ◌⊎◌, inl, inr, Bool, true, List, [], ◌∷◌, ◌++◌, Some, None, codes, drop, get_or, length, refl, slice_get, sym, ap, subst, take, arith}
+use Rattle.std.proofs.Common.{Contains, ◌≡◌, ◌≢◌, ◌∙◌, ℕ, suc, ◌+◌, ◌<◌, ◌⊎◌, inl, inr, Bool, true, List, [], ◌∷◌, ◌++◌, Some, None, codes, drop, get_or, length, refl, slice_get, sym, ap, subst, take, arith}
 use Rattle.std.specs.BTreeSet.{BTreeSet}
 use Rattle.std.specs.Global.{Vec}
-use Rattle.std.proofs.Math.Seq.{drop-cons, take-append_seam}
+use Rattle.std.proofs.Math.Seq.{drop-append_seam, take-append_seam}
 use Rattle.std.proofs.lemmas.List.{append_cancel_left, append-nil, get_or_at, get_or_default, length-append, take-append-drop}
 use Rattle.cck_cache_text.specs.Included.{IncludesHeader, Includes, IsAfter, IsClosedBy, IsGiven, IsGivenAt, IsGivenTo, IsHeader, IsIncludedBy}
 use Rattle.cck_cache_text.specs.SearchList.{text_lines}
@@ -13,54 +13,49 @@ use Rattle.cck_cache_text.proofs.SetLemmas.{Below, adds_as, adds_both, adds_noth
 -- ---- a line
 
 -- a name ends before this place
-abbrev pub ClosedAt : ℕ → List ℕ → ℕ → List ℕ → Type 0
-ClosedAt close text place name = (get_or text place 0 ≡ close) × (name ≡ take place text)
+abbrev pub ClosedAt : List ℕ → List ℕ → ℕ → List ℕ → Type 0
+ClosedAt close text place name = ((rest : List ℕ) × (drop place text ≡ close ++ rest)) × (name ≡ take place text)
 
-pub closed_here : (close : ℕ) (text : List ℕ) (place : ℕ) (old new : BTreeSet (Vec ℕ)) (name : List ℕ) → get_or text place 0 ≡ close → name ≡ take place text → Adds (λ q. q ≡ name) old new → Adds (ClosedAt close text place) old new
-closed_here close text place old new name here is = adds_as (λ q. q ≡ name) (ClosedAt close text place) old new (λ q same. (here, same ∙ is)) (λ q at. at.1 ∙ sym is)
+pub closed_here : (close text : List ℕ) (place : ℕ) (old new : BTreeSet (Vec ℕ)) (name rest : List ℕ) → drop place text ≡ close ++ rest → name ≡ take place text → Adds (λ q. q ≡ name) old new → Adds (ClosedAt close text place) old new
+closed_here close text place old new name rest here is = adds_as (λ q. q ≡ name) (ClosedAt close text place) old new (λ q same. ((rest, here), same ∙ is)) (λ q at. at.1 ∙ sym is)
 
-pub closed_all : (close : ℕ) (text : List ℕ) (count : ℕ) (old new : BTreeSet (Vec ℕ)) → count ≡ length text → Adds (Below (ClosedAt close text) count) old new → Adds (IsClosedBy close text) old new
+pub closed_all : (close text : List ℕ) (count : ℕ) (old new : BTreeSet (Vec ℕ)) → count ≡ suc (length text) → Adds (Below (ClosedAt close text) count) old new → Adds (IsClosedBy close text) old new
 closed_all close text count old new end = adds_as (Below (ClosedAt close text) count) (IsClosedBy close text) old new to from
   where
     to : (q : List ℕ) → Below (ClosedAt close text) count q → IsClosedBy close text q
-    to q (k, lt, (here, is)) =
-        let within : k < length text = omega (arith, lt, end) in (
-          drop (suc k) text,
-          sym (take-append-drop k text) ∙ (ap (λ rest. take k text ++ rest) (drop-cons text k 0 within)
-              ∙ (ap (λ byte. take k text ++ byte ∷ drop (suc k) text) here ∙ ap (λ name. name ++ close ∷ drop (suc k) text) (sym is))),
-        )
+    to q (k, lt, ((rest, here), is)) = (rest, sym (take-append-drop k text) ∙ (ap (λ after. take k text ++ after) here ∙ ap (λ name. name ++ (close ++ rest)) (sym is)))
 
     from : (q : List ℕ) → IsClosedBy close text q → Below (ClosedAt close text) count q
     from q (rest, is) = (
       length q,
-      omega (arith, end, ap length is, length-append q (close ∷ rest)),
-      (ap (λ (t : List ℕ). get_or t (length q) 0) is ∙ get_or_at q close rest 0 (length q) refl, sym (ap (take (length q)) is ∙ take-append_seam q (close ∷ rest))),
+      omega (arith, end, ap length is, length-append q (close ++ rest)),
+      ((rest, ap (drop (length q)) is ∙ drop-append_seam q (close ++ rest)), sym (ap (take (length q)) is ∙ take-append_seam q (close ++ rest))),
     )
 
-module _ (front : List ℕ) (close : ℕ) (line : List ℕ) (old new : BTreeSet (Vec ℕ)) where
+module _ (front close line : List ℕ) (old new : BTreeSet (Vec ℕ)) where
   -- a line that begins so
   pub after_front : (rest : List ℕ) → line ≡ front ++ rest → Adds (IsClosedBy close rest) old new → Adds (IsAfter front close line) old new
   after_front rest is = adds_as (IsClosedBy close rest) (IsAfter front close line) old new (λ q closed. (rest, is, closed))
       (λ q at. subst (λ (r : List ℕ). IsClosedBy close r q) (append_cancel_left front at.0 rest (sym at.1 ∙ is)) at.2)
 
 -- a line that begins otherwise
-pub after_none : (front : List ℕ) (close : ℕ) (line : List ℕ) (old : BTreeSet (Vec ℕ)) → ((rest : List ℕ) → line ≢ front ++ rest) → Adds (IsAfter front close line) old old
+pub after_none : (front close line : List ℕ) (old : BTreeSet (Vec ℕ)) → ((rest : List ℕ) → line ≢ front ++ rest) → Adds (IsAfter front close line) old old
 after_none front close line old none = adds_nothing (IsAfter front close line) old (λ q at. none at.0 at.1)
 
 -- the names after each of the words
-pub after_words : (first close : ℕ) (line : List ℕ) (old one two new : BTreeSet (Vec ℕ)) → Adds (IsAfter (codes "#include " ++ first ∷ []) close line) old one
-    → Adds (IsAfter (codes "#include_next " ++ first ∷ []) close line) one two → Adds (IsAfter (codes "#import " ++ first ∷ []) close line) two new → Adds (Includes first close line) old new
+pub after_words : (first close : ℕ) (line : List ℕ) (old one two new : BTreeSet (Vec ℕ)) → Adds (IsAfter (codes "#include " ++ first ∷ []) (close ∷ []) line) old one
+    → Adds (IsAfter (codes "#include_next " ++ first ∷ []) (close ∷ []) line) one two → Adds (IsAfter (codes "#import " ++ first ∷ []) (close ∷ []) line) two new → Adds (Includes first close line) old new
 after_words first close line old one two new a b c =
     adds_as (λ q. (A q ⊎ B q) ⊎ C q) (Includes first close line) old new to from (adds_both (λ q. A q ⊎ B q) C old two new (adds_both A B old one two a b) c)
   where
     A : List ℕ → Type 0
-    A q = IsAfter (codes "#include " ++ first ∷ []) close line q
+    A q = IsAfter (codes "#include " ++ first ∷ []) (close ∷ []) line q
 
     B : List ℕ → Type 0
-    B q = IsAfter (codes "#include_next " ++ first ∷ []) close line q
+    B q = IsAfter (codes "#include_next " ++ first ∷ []) (close ∷ []) line q
 
     C : List ℕ → Type 0
-    C q = IsAfter (codes "#import " ++ first ∷ []) close line q
+    C q = IsAfter (codes "#import " ++ first ∷ []) (close ∷ []) line q
 
     to : (q : List ℕ) → (A q ⊎ B q) ⊎ C q → Includes first close line q
     to q (inl (inl h)) = (codes "#include ", inl refl, h)
@@ -68,27 +63,38 @@ after_words first close line old one two new a b c =
     to q (inr h) = (codes "#import ", inr (inr refl), h)
 
     from : (q : List ℕ) → Includes first close line q → (A q ⊎ B q) ⊎ C q
-    from q (word, inl is, h) = inl (inl (subst (λ (w : List ℕ). IsAfter (w ++ first ∷ []) close line q) is h))
-    from q (word, inr (inl is), h) = inl (inr (subst (λ (w : List ℕ). IsAfter (w ++ first ∷ []) close line q) is h))
-    from q (word, inr (inr is), h) = inr (subst (λ (w : List ℕ). IsAfter (w ++ first ∷ []) close line q) is h)
+    from q (word, inl is, h) = inl (inl (subst (λ (w : List ℕ). IsAfter (w ++ first ∷ []) (close ∷ []) line q) is h))
+    from q (word, inr (inl is), h) = inl (inr (subst (λ (w : List ℕ). IsAfter (w ++ first ∷ []) (close ∷ []) line q) is h))
+    from q (word, inr (inr is), h) = inr (subst (λ (w : List ℕ). IsAfter (w ++ first ∷ []) (close ∷ []) line q) is h)
 
 -- ---- lines
 
 -- the line at this place includes a header
-abbrev pub IncludesAt : List (List ℕ) → Bool → ℕ → List ℕ → Type 0
-IncludesAt lines is_quoted place name = IncludesHeader (get_or lines place []) name is_quoted
+abbrev pub LineAt : (List ℕ → List ℕ → Type 0) → List (List ℕ) → ℕ → List ℕ → Type 0
+LineAt P lines place name = P (get_or lines place []) name
 
-pub included_by : (lines : List (List ℕ)) (is_quoted : Bool) (count : ℕ) (old new : BTreeSet (Vec ℕ)) → count ≡ length lines → Adds (Below (IncludesAt lines is_quoted) count) old new → Adds (IsIncludedBy lines is_quoted) old new
-included_by lines is_quoted count old new end = adds_as (Below (IncludesAt lines is_quoted) count) (IsIncludedBy lines is_quoted) old new to from
+pub by_lines : (P : List ℕ → List ℕ → Type 0) (lines : List (List ℕ)) (count : ℕ) (old new : BTreeSet (Vec ℕ)) → count ≡ length lines → Adds (Below (LineAt P lines) count) old new
+    → Adds (λ name. (line : List ℕ) × Contains lines line × P line name) old new
+by_lines P lines count old new end = adds_as (Below (LineAt P lines) count) By old new to from
   where
-    to : (q : List ℕ) → Below (IncludesAt lines is_quoted) count q → IsIncludedBy lines is_quoted q
+    By : List ℕ → Type 0
+    By name = (line : List ℕ) × Contains lines line × P line name
+
+    to : (q : List ℕ) → Below (LineAt P lines) count q → By q
     to q (k, lt, here) =
         let within : k < length lines = omega (arith, lt, end) in
         (get_or lines k [], (k, within, get_or_default lines k (get_or lines k []) [] within), here)
 
-    from : (q : List ℕ) → IsIncludedBy lines is_quoted q → Below (IncludesAt lines is_quoted) count q
+    from : (q : List ℕ) → By q → Below (LineAt P lines) count q
     from q (line, (k, lt, is), here) =
-        (k, omega (arith, lt, end), subst (λ (l : List ℕ). IncludesHeader l q is_quoted) (sym is ∙ get_or_default lines k line [] lt) here)
+        (k, omega (arith, lt, end), subst (λ (l : List ℕ). P l q) (sym is ∙ get_or_default lines k line [] lt) here)
+
+-- the line at this place includes the header of this name
+abbrev pub IncludesAt : List (List ℕ) → Bool → ℕ → List ℕ → Type 0
+IncludesAt lines is_quoted = LineAt (λ line name. IncludesHeader line name is_quoted) lines
+
+pub included_by : (lines : List (List ℕ)) (is_quoted : Bool) (count : ℕ) (old new : BTreeSet (Vec ℕ)) → count ≡ length lines → Adds (Below (IncludesAt lines is_quoted) count) old new → Adds (IsIncludedBy lines is_quoted) old new
+included_by lines is_quoted = by_lines (λ line name. IncludesHeader line name is_quoted) lines
 
 -- ---- arguments
 

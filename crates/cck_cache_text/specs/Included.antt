@@ -8,17 +8,17 @@ use Rattle.cck_cache_text.specs.declared.included.Included.{Included}
 abbrev pub IsIncludeWord : List ℕ → Type 0
 IsIncludeWord word = (word ≡ codes "#include ") ⊎ ((word ≡ codes "#include_next ") ⊎ (word ≡ codes "#import "))
 
--- A name is followed by the byte that closes it, and by anything. The name itself may have that byte, and so may a comment after it.
-abbrev pub IsClosedBy : ℕ → List ℕ → List ℕ → Type 0
-IsClosedBy close text name = (rest : List ℕ) × (text ≡ name ++ close ∷ rest)
+-- A name is followed by what closes it, and by anything. The name itself may have that, and so may a comment after it.
+abbrev pub IsClosedBy : List ℕ → List ℕ → List ℕ → Type 0
+IsClosedBy close text name = (rest : List ℕ) × (text ≡ name ++ (close ++ rest))
 
 -- a line begins with this, and then a name follows
-abbrev pub IsAfter : List ℕ → ℕ → List ℕ → List ℕ → Type 0
+abbrev pub IsAfter : List ℕ → List ℕ → List ℕ → List ℕ → Type 0
 IsAfter front close line name = (rest : List ℕ) × (line ≡ front ++ rest) × IsClosedBy close rest name
 
 -- a line includes the header of this name, between these two bytes
 abbrev pub Includes : ℕ → ℕ → List ℕ → List ℕ → Type 0
-Includes first close line name = (word : List ℕ) × IsIncludeWord word × IsAfter (word ++ first ∷ []) close line name
+Includes first close line name = (word : List ℕ) × IsIncludeWord word × IsAfter (word ++ first ∷ []) (close ∷ []) line name
 
 -- a line includes the header of this name, in quotes or in brackets
 abbrev pub IncludesHeader : List ℕ → List ℕ → Bool → Type 0

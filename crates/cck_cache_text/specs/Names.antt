@@ -1,8 +1,10 @@
 -- the files that a preprocessed text names
-use Rattle.std.specs.Prelude.{◌≡◌, ℕ, Bool, false, not, ◌&&◌, ◌||◌, ◌==◌, if◌then◌else◌, List, [], ◌∷◌, length, Option, Some, None, codes, nat_eq, is_some}
+use Rattle.std.specs.Prelude.{◌≡◌, ◌⊎◌, Contains, IsTrue, ℕ, Bool, false, not, ◌&&◌, ◌||◌, ◌==◌, if◌then◌else◌, List, [], ◌∷◌, length, Option, Some, None, codes, nat_eq, is_some}
 use Rattle.std.specs.List.{list_any, ends_with}
 use Rattle.std.specs.Str.{bytes_eq}
 use Rattle.cck_include.specs.Marks.{Mark, Name, Refusal, Malformed}
+use Rattle.cck_cache_text.specs.Included.{IsAfter}
+use Rattle.cck_cache_text.specs.SearchList.{text_lines}
 use Rattle.cck_cache_text.specs.Sets.{has_key}
 use Rattle.cck_cache_text.specs.declared.names.Named.{Named}
 
@@ -28,6 +30,18 @@ is_some_true (Some b) = b
 -- a mark names this file, and the first one that does says that it is a system header
 abbrev pub is_system_name : List Mark → List ℕ → Bool
 is_system_name marks name = not (is_no_file name) && is_some_true (first_of_name name marks)
+
+-- a line enters a file of this name as a system header: a marker of its first line with the flags 1 and 3
+abbrev pub EntersSystem : List ℕ → List ℕ → Type 0
+EntersSystem line name = IsAfter (codes "# 1 \"") (codes "\" 1 3") line name
+
+-- one of these lines does
+abbrev pub IsEnteredBy : List (List ℕ) → List ℕ → Type 0
+IsEnteredBy lines name = (line : List ℕ) × Contains lines line × EntersSystem line name
+
+-- a system header by these marks, or by a line that enters it
+abbrev pub IsSystem : List Mark → List ℕ → List ℕ → Type 0
+IsSystem marks text name = IsTrue (is_system_name marks name) ⊎ IsEnteredBy (text_lines text) name
 
 -- a name up to its last slash, which is part of it
 abbrev pub directory_of : List ℕ → List ℕ

@@ -17,32 +17,34 @@ pub struct Included {
     pub bracketed: BTreeSet<Vec<u8>>,
 }
 
-// Adds the names that begin a text, each up to a byte that may close it.
+// Adds the names that begin a text, each up to what may close it.
 fn add_closed(
     alloc: Global,
     names: &mut BTreeSet<Vec<u8>>,
     text: &[u8],
-    close: u8,
+    close: &[u8],
 ) -> Result<(), AllocError>
-    ensures { OnOk result (Adds (IsClosedBy close text.now) names.old names.new) }
+    ensures { OnOk result (Adds (IsClosedBy close.now text.now) names.old names.new) }
 {
-    for place in 0..text.len() {
-        if text[place] == close {
+    for place in 0..text.len() + 1 {
+        if text[place..].starts_with(close) {
             add(names, text[..place].to_vec(alloc)?)?;
         }
     }
     Ok(())
 }
 
-// Adds the names in a line that begins with this.
-fn add_after(
+/// Adds the names in a line that begins with this, each up to what may close it.
+///
+/// The only error is lack of memory.
+pub fn add_after(
     alloc: Global,
     names: &mut BTreeSet<Vec<u8>>,
     line: &[u8],
     front: &[u8],
-    close: u8,
+    close: &[u8],
 ) -> Result<(), AllocError>
-    ensures { OnOk result (Adds (IsAfter front.now close line.now) names.old names.new) }
+    ensures { OnOk result (Adds (IsAfter front.now close.now line.now) names.old names.new) }
 {
     if let Some(rest) = line.strip_prefix(front) {
         add_closed(alloc, names, rest, close)?;
@@ -54,9 +56,9 @@ fn add_after(
 fn add_quoted(alloc: Global, names: &mut BTreeSet<Vec<u8>>, line: &[u8]) -> Result<(), AllocError>
     ensures { OnOk result (Adds (λ name. IncludesHeader line.now name true) names.old names.new) }
 {
-    add_after(alloc, names, line, b"#include \"", b'"')?;
-    add_after(alloc, names, line, b"#include_next \"", b'"')?;
-    add_after(alloc, names, line, b"#import \"", b'"')?;
+    add_after(alloc, names, line, b"#include \"", b"\"")?;
+    add_after(alloc, names, line, b"#include_next \"", b"\"")?;
+    add_after(alloc, names, line, b"#import \"", b"\"")?;
     Ok(())
 }
 
@@ -68,9 +70,9 @@ fn add_bracketed(
 ) -> Result<(), AllocError>
     ensures { OnOk result (Adds (λ name. IncludesHeader line.now name false) names.old names.new) }
 {
-    add_after(alloc, names, line, b"#include <", b'>')?;
-    add_after(alloc, names, line, b"#include_next <", b'>')?;
-    add_after(alloc, names, line, b"#import <", b'>')?;
+    add_after(alloc, names, line, b"#include <", b">")?;
+    add_after(alloc, names, line, b"#include_next <", b">")?;
+    add_after(alloc, names, line, b"#import <", b">")?;
     Ok(())
 }
 

@@ -1,10 +1,12 @@
 //! The files that a preprocessed text names.
-ghost use Rattle.std.specs.Prelude.{◌≡◌, ◌∷◌, ◌++◌, [], IfOk, List, OnOk, false, true, ℕ};
+ghost use Rattle.std.specs.Prelude.{◌≡◌, ◌∷◌, ◌++◌, [], IfOk, List, OnOk, false, map, true, ℕ};
 ghost use Rattle.cck_include.specs.Marks as spec;
 ghost use Rattle.cck_include.specs.Marks.{Marks};
-ghost use Rattle.cck_cache_text.specs.Names.{AreNames, directory_of, is_named, is_no_file, is_system_name};
-ghost use Rattle.cck_cache_text.specs.Sets.{has_key};
+ghost use Rattle.cck_cache_text.specs.Names.{AreNames, IsEnteredBy, IsSystem, directory_of, is_named, is_no_file};
+ghost use Rattle.cck_cache_text.specs.Sets.{Adds, IsSetOf, has_key};
 
+use crate::included::add_after;
+use crate::search_list::text_lines;
 use cck_include::{Mark, Markers};
 use memchr::memrchr;
 use std::alloc::{AllocError, Global};
@@ -118,19 +120,35 @@ pub fn file_names(alloc: Global, text: &[u8]) -> Result<BTreeSet<Vec<u8>>, Alloc
     Ok(names)
 }
 
-/// The names of the files that this preprocessed text names first as a system header, in order and each once. A later
-/// mark of one of these, or of another name, does not count: GCC also marks a token so that a macro of a system header
-/// makes.
+// Adds the names of the files that these lines enter as system headers.
+fn add_entered(
+    alloc: Global,
+    systems: &mut BTreeSet<Vec<u8>>,
+    lines: &[&[u8]],
+) -> Result<(), AllocError>
+    ensures { OnOk result (Adds (IsEnteredBy (map (λ line. line.now) lines.now)) systems.old systems.new) }
+{
+    for line in lines {
+        add_after(alloc, systems, line, b"# 1 \"", b"\" 1 3")?;
+    }
+    Ok(())
+}
+
+/// The names of the system headers of this preprocessed text, in order and each once: those of the files that it names
+/// first as one, and those that it enters as one later. Another mark does not count: GCC also marks a token so that a
+/// macro of a system header makes.
 ///
 /// The only error is lack of memory.
 pub fn system_names(alloc: Global, text: &[u8]) -> Result<BTreeSet<Vec<u8>>, AllocError>
     ensures { IfOk result (λ names. (marks : List spec.Mark) → Marks true text.now marks
-        → (name : List ℕ) → has_key names name ≡ is_system_name marks name) }
+        → IsSetOf (IsSystem marks text.now) names) }
 {
     let Named {
         names: _,
         systems,
         directories: _,
     } = names_in(alloc, text)?;
+    let mut systems = systems;
+    add_entered(alloc, &mut systems, &text_lines(alloc, text)?)?;
     Ok(systems)
 }
