@@ -1,14 +1,14 @@
 -- The names that lines and arguments include.
-use Rattle.std.proofs.Common.{Contains, ◌≡◌, ◌≢◌, ◌∙◌, ℕ, suc, ◌+◌, ◌<◌, ◌⊎◌, inl, inr, Bool, true, List, [], ◌∷◌, ◌++◌, Some, None, codes, drop, get_or, length, refl, slice_get, sym, ap, subst, take, arith}
+use Rattle.std.proofs.Common.{Bor, Contains, map, ◌+◌, ◌≡◌, ◌≢◌, ◌∙◌, ℕ, suc, ◌+◌, ◌<◌, ◌⊎◌, inl, inr, Bool, true, List, [], ◌∷◌, ◌++◌, Some, None, codes, drop, get_or, length, refl, slice_get, sym, ap, subst, take, arith}
 use Rattle.std.specs.BTreeSet.{BTreeSet}
 use Rattle.std.specs.Global.{Vec}
 use Rattle.std.proofs.Math.Seq.{drop-append_seam, take-append_seam}
-use Rattle.std.proofs.lemmas.List.{append_cancel_left, append-nil, get_or_at, get_or_default, length-append, take-append-drop}
+use Rattle.std.proofs.lemmas.List.{append_cancel_left, append-nil, get_or_default, get_or-map, length-append, length-map, take-append-drop}
 use Rattle.cck_cache_text.specs.Included.{IncludesHeader, Includes, IsAfter, IsClosedBy, IsGiven, IsGivenAt, IsGivenTo, IsHeader, IsIncludedBy}
 use Rattle.cck_cache_text.specs.SearchList.{text_lines}
 use Rattle.cck_cache_text.specs.Sets.{Adds, IsSetOf}
 use Rattle.cck_cache_text.proofs.LeftLemmas.{no_key}
-use Rattle.cck_cache_text.proofs.SetLemmas.{Below, adds_as, adds_both, adds_nothing}
+use Rattle.cck_cache_text.proofs.SetLemmas.{Below, adds_as, adds_both, adds_more, adds_nothing}
 
 -- ---- a line
 
@@ -89,12 +89,25 @@ by_lines P lines count old new end = adds_as (Below (LineAt P lines) count) By o
     from q (line, (k, lt, is), here) =
         (k, omega (arith, lt, end), subst (λ (l : List ℕ). P l q) (sym is ∙ get_or_default lines k line [] lt) here)
 
+-- the lines of a program's list
+module _ (P : List ℕ → List ℕ → Type 0) (items : List (Bor (List ℕ))) (old : BTreeSet (Vec ℕ)) where
+  abbrev lines : List (List ℕ)
+  lines = map (λ line. line.now) items
+
+  -- what one more adds
+  pub one_more_line : (i : ℕ) (d : Bor (List ℕ)) (so_far new : BTreeSet (Vec ℕ)) → i < length items → Adds (Below (LineAt P (map (λ line. line.now) items)) i) old so_far → Adds (P (get_or items i d).now) so_far new
+      → Adds (Below (LineAt P (map (λ line. line.now) items)) (i + 1)) old new
+  one_more_line i d so_far new within done adds =
+      adds_more (LineAt P lines) i old so_far new done (subst (λ (l : List ℕ). Adds (P l) so_far new) (sym (get_or-map (λ (line : Bor (List ℕ)). line.now) items i d [] within)) adds)
+
+  -- what all add
+  pub by_all_lines : (count : ℕ) (new : BTreeSet (Vec ℕ)) → count ≡ length items → Adds (Below (LineAt P (map (λ line. line.now) items)) count) old new
+      → Adds (λ name. (line : List ℕ) × Contains (map (λ line. line.now) items) line × P line name) old new
+  by_all_lines count new end = by_lines P lines count old new (omega (arith, end, length-map items (λ (line : Bor (List ℕ)). line.now)))
+
 -- the line at this place includes the header of this name
 abbrev pub IncludesAt : List (List ℕ) → Bool → ℕ → List ℕ → Type 0
 IncludesAt lines is_quoted = LineAt (λ line name. IncludesHeader line name is_quoted) lines
-
-pub included_by : (lines : List (List ℕ)) (is_quoted : Bool) (count : ℕ) (old new : BTreeSet (Vec ℕ)) → count ≡ length lines → Adds (Below (IncludesAt lines is_quoted) count) old new → Adds (IsIncludedBy lines is_quoted) old new
-included_by lines is_quoted = by_lines (λ line name. IncludesHeader line name is_quoted) lines
 
 -- ---- arguments
 

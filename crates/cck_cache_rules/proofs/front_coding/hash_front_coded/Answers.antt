@@ -4,7 +4,7 @@ use Rattle.std.proofs.Math.Seq.{take-length}
 use Rattle.std.proofs.lemmas.List.{length-drop, length-map, map_push, take_all, take_more}
 use Rattle.cck_digest.specs.Frames.{frame, length_bytes}
 use Rattle.cck_cache_rules.proofs.FrontCodingLemmas.{front_bytes_more, front_coded_length, last_more, last_of}
-use Rattle.cck_cache_rules.specs.FrontCoding.{framed_front_coded, front_bytes, front_coded}
+use Rattle.cck_cache_rules.specs.FrontCoding.{front_bytes, front_coded}
 use Rattle.cck_path.specs.Bytes.{lists_of}
 use Rattle.cck_cache_rules.proofs.front_coding.hash_front_coded.Goals as goal
 
