@@ -318,6 +318,55 @@ class Beside(Theme):
             self.content(self.path)
 
 
+class Systems(Theme):
+    """Headers that the project includes and that headers of the system include too, while directories become links."""
+    INCLUDES = ['#include "{}inc/p.h"', '#include "{}inc/p.h"', '#include "{}a/p.h"', "#include <p.h>", '#include "p.h"',
+                "#include <c/p.h>", "#include <s.h>", "#include <s.h>", '#include "{}inc/s.h"']
+    PLACES = ["work/inc/p.h", "work/a/p.h", "work/b/p.h", "work/inc/s.h", "work/a/s.h", "work/b/s.h", "work/a/c/p.h"]
+    WAYS = ["-I", "-isystem", "-isystem", "-idirafter"]
+
+    def start(self):
+        project = self.project
+        for path in self.PLACES[:1] + project.chance.sample(self.PLACES[1:], 3):
+            self.content(path)
+        # Only the name of a header that is absolute, or has `..`, may be longer than its real path.
+        top = project.pick(["@root/work/", "@root/work/", "", "../work/"])
+        includes = self.INCLUDES[:1] + ["#include <s.h>"] + project.chance.sample(self.INCLUDES, project.pick([0, 0, 1, 2]))
+        self.include(*[include.format(top) for include in includes])
+        directories = [top + name for name in ("inc", "inc", "a", "b")[project.pick([0, 1]):]]
+        project.chance.shuffle(directories)
+        self.give([["-Wall"], project.pick([["-MD"], ["-MMD"], ["-g"]])],
+                  [[project.pick(self.WAYS), directory] for directory in directories])
+
+    def content(self, path):
+        project = self.project
+        project.number += 1
+        lines = [f"extern int r{project.number};"]
+        if path.endswith("s.h"):
+            lines += [project.pick(["#include <p.h>", "#include <p.h>", '#include "p.h"', "#include <c/p.h>", "#include_next <s.h>"])]
+            lines[:0] = ["#pragma GCC system_header"] * project.pick([0, 1])
+        elif project.is_rare(0.3):
+            lines.append("#include_next <p.h>")
+        self.put(path, *lines)
+
+    def change(self):
+        project = self.project
+        path = project.pick(self.PLACES)
+        how = project.pick(["content", "remove", "directory", "turn"], [4, 2, 4, 1])
+        if how == "content":
+            self.content(path)
+        elif how == "remove" and path in project.tree:
+            project.do({"do": "remove", "path": path})
+        elif how == "directory":
+            path = project.pick(["work/inc", "work/inc", "work/a"])
+            if any(other.startswith(path + "/") for other in project.tree):
+                project.number += 1
+                project.do({"do": "rename", "path": path, "to": f"work/{project.number}"})
+                project.do({"do": "link", "path": path, "to": project.pick(["", "@root/work/"]) + str(project.number)})
+        else:
+            project.turn()
+
+
 class Assembler(Theme):
     """Assembler code that is preprocessed: includes, comments like directives, and what the assembler reads by itself."""
     LINES = [".long VALUE", ".long VALUE", ".long 1 /* a\ncomment */ + 2", "# it's a comment", "# it's /* a comment", ".byte 1 // more",
@@ -373,4 +422,5 @@ class Assembler(Theme):
 
 
 # How often a project has a theme.
-THEMES = {Plain: 10, Columns: 2.5, Variables: 1.5, Missing: 1, Base: 1.5, Copies: 1.5, Readings: 1.5, Beside: 2, Assembler: 2}
+THEMES = {Plain: 10, Columns: 2.5, Variables: 1.5, Missing: 1, Base: 1.5, Copies: 1.5, Readings: 1.5, Beside: 2,
+          Systems: 1.5, Assembler: 2}
