@@ -1,7 +1,7 @@
 #!/bin/sh
-# Times builds of a project's C files at -O2 -g: by gcc, by the wrapper and by ccache in direct mode, with an
+# Times builds of a project's files at -O2 -g: by gcc, by the wrapper and by ccache in direct mode, with an
 # empty store and with all hits, and what one hit takes. PROJECT is lua, the default, zstd, freetype, libxml2,
-# mbedtls, libuv or jemalloc. JOBS is the number of jobs, 1 by default, and ROUNDS the number of rounds, 3 by
+# mbedtls, libuv, jemalloc or, in C++, re2. JOBS is the number of jobs, 1 by default, and ROUNDS the number of rounds, 3 by
 # default: a round has each build once, with all hits three times, and the least time of each counts. Needs gcc,
 # make, Python 3 and Debian's package archive; ccache for its lines, and strace and valgrind for theirs.
 set -eu
@@ -37,6 +37,7 @@ jemalloc)
     # (zone.c is for another system)
     files='src/[!z]*.c'
     ;;
+re2) package=re2 directory=. flags="$flags -I. -pthread" files='re2/*.cc util/rune.cc util/strutil.cc' ;;
 *)
     echo "bench/real.sh: no project $PROJECT" >&2
     exit 2

@@ -1,4 +1,4 @@
-"""What one hit takes, for each of the C files that are named: by the wrapper, by ccache if it is there, and by gcc. The
+"""What one hit takes, for each of the files that are named: by the wrapper, by ccache if it is there, and by gcc. The
 milliseconds are the least of 100 runs, one after the other in each round; the instructions are those that callgrind counts in
 all processes, but of the wrapper in its program alone: under callgrind it does not find the programs of the compiler, so
 they are given to it. The system calls and processes are those that strace counts. bench/real.sh runs it after a build by both
@@ -54,7 +54,7 @@ def system_calls(words):
 
 def main():
     for name in sys.argv[1:]:
-        words = [*FLAGS, "-c", name, "-o", name[:-2] + ".o"]
+        words = [*FLAGS, "-c", name, "-o", os.path.splitext(name)[0] + ".o"]
         commands = {"cckcc gcc": ["cckcc", "gcc", *words], "ccache gcc": ["ccache", "gcc", *words], "gcc": ["gcc", *words],
                     "a process: true": ["true"], "a shell: sh -c :": ["sh", "-c", ":"]}
         if not shutil.which("ccache"):
