@@ -336,8 +336,8 @@ shares_text() {
     esac
 }
 
-# Sets `cck_seen` to the path of a file for this input, with the sum of an input of this name of which the store has an
-# object. It may be that of other arguments or, with a base directory, of another directory.
+# Sets `cck_seen` to the path of the marks of this input: a line for each recorded call of an input of this name, with the sums
+# of the call and of the input, and how the text showed macros. With a base directory it may be that of another directory.
 name_mark() {
     cck_seen=
     [ -z "$CCK_BASEDIR" ] || shares_text || return 0
@@ -350,20 +350,60 @@ name_mark() {
     cck_seen=$cck_store/inputs/${cck_above##*/}-${cck_input##*/}
 }
 
-# Whether the directory may have the object of the text. Where the call has an entry, a header has changed, and with it the
-# name of the object, but for what another directory has.
+# Writes the sums of a call, the words of which these are, and of its input. The name of an object does not depend on
+# definitions, for which the text stands, nor on the paths of outputs; of what maps prefixes each directory has its own.
+sum_call() {
+    while [ "$1" != -- ]; do shift; done
+    shift
+    cck_counted=${PWD#"$CCK_BASEDIR"}$cck_newline$cck_programs cck_is_value=
+    for cck_argument do
+        case $cck_is_value:$cck_argument in
+        1:*|:-c) cck_is_value= ;;
+        :-[DUo]|:-MF) cck_is_value=1 ;;
+        :-[DUo]*|:-MF*|:-f*-prefix-map=*) ;;
+        *) cck_counted=$cck_counted$cck_newline$cck_argument ;;
+        esac
+    done
+    cksum -- - "$cck_input" > "$cck_scratch/sum" 2>/dev/null <<END
+$cck_counted
+END
+}
+
+# Sets `cck_sum` to both sums, each with the number of bytes. It fails where there are not both.
+read_sum() {
+    { read -r cck_sum cck_size cck_next && read -r cck_input_sum cck_input_size cck_next; } < "$cck_scratch/sum" || return
+    cck_sum="$cck_sum $cck_size $cck_input_sum $cck_input_size"
+} 2>/dev/null
+
+# Whether the directory may have the object of the text, by the marks of the input: `cck_marks` are those of calls with the same
+# sums. Where the call has an entry, a header has changed, and with it the name of the object, but for what another directory
+# has. The words are those of the call.
 may_have_text() {
     [ -n "$cck_seen" ] && [ -e "$cck_seen" ] || return 1
     find_place entries "$cck_key"
     [ -n "$CCK_BASEDIR" ] || [ ! -e "$cck_place/$cck_key" ] || return 1
-    cksum < "$cck_input" > "$cck_scratch/sum" 2>/dev/null && cmp -s "$cck_scratch/sum" "$cck_seen"
+    sum_call "$@" && read_sum && cck_marks=$(grep -F -e "$cck_sum " "$cck_seen" 2>/dev/null)
 }
 
-# Writes that file.
+# Whether there may be an object of a text that shows macros by the option $1. A server has no marks.
+may_have_shown() {
+    [ -z "$cck_server" ] || return 0
+    case $cck_marks in
+    *" $1"*) return 0 ;;
+    esac
+    return 1
+}
+
+# Adds the mark of this call, before those of the last 15 others.
 write_mark() {
-    [ -n "$cck_seen" ] && [ -s "$cck_scratch/sum" ] || return 0
-    read -r cck_sum < "$cck_scratch/sum"
-    (share; [ -d "$cck_store/inputs" ] || mkdir -p "$cck_store/inputs"; printf '%s\n' "$cck_sum" > "$cck_seen") 2>/dev/null
+    [ -n "$cck_seen" ] && read_sum || return 0
+    cck_mark="$cck_sum ${cck_macros%% *}"
+    cck_marks=$cck_mark cck_number=1
+    [ ! -e "$cck_seen" ] || while [ $cck_number -lt 16 ] && IFS= read -r cck_line; do
+        [ "$cck_line" != "$cck_mark" ] || continue
+        cck_marks=$cck_marks$cck_newline$cck_line cck_number=$((cck_number + 1))
+    done < "$cck_seen"
+    (share; [ -d "$cck_store/inputs" ] || mkdir -p "$cck_store/inputs"; printf '%s\n' "$cck_marks" > "$cck_seen") 2>/dev/null
 }
 
 # Has the program look for the call's object.
@@ -535,7 +575,7 @@ cck_entry_out=
 { find_script text.sh && . "$cck_script"; } || { cck_found='passed no-tool'; pass_on "$@"; }
 # The preprocessor runs beside the compiler, unless the object of its text may be there.
 name_mark
-if [ -n "$cck_server" ] || may_have_text; then
+if [ -n "$cck_server" ] || may_have_text "$@"; then
     write_text "$@" 2>/dev/null
     find_text "$@"
 else

@@ -689,7 +689,7 @@ judge_targets() {
 # made of a text that names no file beside the input: such a text names an empty one. The words are those of the call.
 write_text() {
     [ "$cck_macros" != -dD ] || show_all_macros "$@"
-    [ -z "$cck_seen" ] || [ -e "$cck_scratch/sum" ] || cksum < "$cck_input" > "$cck_scratch/sum"
+    [ -z "$cck_seen" ] || [ -e "$cck_scratch/sum" ] || sum_call "$@"
     preprocess text ''
     [ ! -e "$cck_scratch/failed" ] || return
     find_own
@@ -722,13 +722,13 @@ write_text() {
     printf '%s\n' "$cck_refused" "$cck_macros" > "$cck_scratch/refused"
 }
 
-# Looks for the object of the text, and ends if it is there. One with messages is kept under the name that a text with all
-# macros gives: that text is `all` from then on, and `cck_refused_all` says why it is not recorded.
+# Looks for the object of the text where it may be, and ends if it is there. One with messages is kept under the name that a
+# text with all macros gives: that text is `all` from then on, and `cck_refused_all` says why it is not recorded.
 find_text() {
     if [ -e "$cck_scratch/failed" ] || [ -n "$cck_refused" ]; then return; fi
     [ -z "$cck_server$CCK_BASEDIR" ] || shares_text || return
-    look_for_text "$@"
-    [ "$cck_macros" = -dU ] || return
+    if may_have_shown "${cck_macros%% *}"; then look_for_text "$@"; fi
+    [ "$cck_macros" = -dU ] && may_have_shown -dD || return
     mv "$cck_scratch/text" "$cck_scratch/used" 2>/dev/null
     cck_macros=-dD
     write_text "$@" 2>/dev/null
