@@ -5,14 +5,15 @@
 # What the first build recorded hits in the second, and what the third recorded in the last. Where there is ccache, its
 # hits in a second build are counted too.
 # COMPILER is gcc or clang, by default gcc; C++ is compiled by g++ or clang++. The words are the names of projects, by
-# default all: in C musl with debug information, OpenSSL, and FFmpeg and Linux in small configurations; in C++
-# range-v3, by CMake and Ninja, yaml-cpp, by CMake and make, Aspell, by a configure script and make, and libsigc++, by
-# Meson. KEEP names a directory for logs. Run by hand; needs the compiler, make, perl, flex, bison, bc, the headers of
-# libelf, CMake, Ninja, Meson and Debian's package archive. Its last line is 'all passed'.
+# default all: in C musl with debug information, OpenSSL, FFmpeg and Linux in small configurations, and GNU sed, of which
+# headers of the system include headers; in C++ range-v3, by CMake and Ninja, yaml-cpp, by CMake and make, Aspell, by a
+# configure script and make, and libsigc++, by Meson. KEEP names a directory for logs. Run by hand; needs the compiler,
+# make, perl, flex, bison, bc, the headers of libelf, CMake, Ninja, Meson and Debian's package archive. Its last line is
+# 'all passed'.
 set -eu
 top=$(cd "$(dirname "$0")/.." && pwd)
 . "$top/tests/real/common.sh"
-[ $# -gt 0 ] || set -- musl openssl ffmpeg linux range-v3 yaml-cpp aspell libsigc++-3.0
+[ $# -gt 0 ] || set -- musl openssl ffmpeg linux sed range-v3 yaml-cpp aspell libsigc++-3.0
 [ -n "${CCK_SOURCES-}" ] || download "$@"
 jobs=${JOBS:-4}
 cc=${COMPILER:-gcc}
@@ -60,6 +61,7 @@ configure() {
         sed -i 's/^# CONFIG_64BIT is not set/CONFIG_64BIT=y/' "$tree/.config"
         cp "$tree/.config" "$room/config"
         ;;
+    sed) ./configure --disable-nls CC="$cc" ;;
     range-v3)
         tree=$room/tree
         CC=$cc CXX=$cxx cmake -G Ninja -B "$tree" -DRANGES_ENABLE_WERROR=OFF -DRANGE_V3_DOCS=OFF -DRANGE_V3_PERF=OFF
@@ -88,7 +90,7 @@ build() {
     : >"$CCK_LOG"
     CACHE=$2
     case $1 in
-    musl | ffmpeg | aspell) make -s clean && make -s -j "$jobs" ;;
+    musl | ffmpeg | sed | aspell) make -s clean && make -s -j "$jobs" ;;
     openssl)
         # (each of the two goals runs make once more, so one comes after the other)
         make -s clean && make -s -j "$jobs" build_libs && make -s -j "$jobs" build_programs
@@ -113,6 +115,7 @@ header() {
     openssl) echo include/openssl/e_os2.h ;;
     ffmpeg) echo libavutil/attributes.h ;;
     linux) echo include/linux/types.h ;;
+    sed) echo config.h ;;
     range-v3) echo include/range/v3/range_fwd.hpp ;;
     yaml-cpp) echo include/yaml-cpp/dll.h ;;
     aspell) echo common/string.hpp ;;

@@ -390,11 +390,31 @@ def empty(server):
         server.remove(name)
 
 
+def is_mark(name):
+    """Whether a value of this name is a mark, which decides only whether a text is made first."""
+    return re.search("[:/]mark[:/]", name) is not None
+
+
 def filled(test, server, **changes):
-    """The values of a compilation that puts them with these variables."""
+    """The entry and the object of a compilation that puts them with these variables."""
     empty(server)
     test.compile(f"{server.scheme}: values", "one", "a", test.machine(), **{**server.variables(), **changes})
-    return server.values()
+    return {name: data for name, data in server.values().items() if not is_mark(name)}
+
+
+def marks(test, server):
+    """Without the mark of a compilation, or with another text in its place, its object is not looked for by a text."""
+    filled(test, server)
+    name, = filter(is_mark, server.values())
+    whole = server.values()[name]
+    for data, wanted in ((whole, "hit, by its text"), (None, "recorded"), (b"", "recorded"), (b"\0\xff\n-dU\n", "recorded"),
+                         (whole.replace(b"-dU", b"-dD"), "recorded"), (b"x\n" * 9999 + whole, "hit, by its text")):
+        server.remove(name)
+        if data is not None:
+            server.set(name, data)
+        label = f"{server.scheme}: a mark of {data and data[:40]}"
+        done = test.compile(label, "two", "a", test.machine(), **{**server.variables(), "CCK_REMOTE_MODE": "read"})
+        test.check(label, (way_of(done), done.counts["server-failed"]), (wanted, 0))
 
 
 def rejects(test, server, label, name, data, values, **changes):
@@ -588,8 +608,8 @@ def words_of(file):
 
 SERVERS = [servers.Redis, servers.RedisByTls, servers.RedisBySocket, servers.Nginx, servers.NginxByTls,
            servers.Lighttpd]
-CHECKS = [checkouts, clients, faults, http_faults, redis_faults, deaths, known, modes, signatures, compression, damage,
-          forge, rechecked]
+CHECKS = [checkouts, clients, faults, http_faults, redis_faults, deaths, known, modes, marks, signatures, compression,
+          damage, forge, rechecked]
 
 
 def chosen(items, names, name_of):

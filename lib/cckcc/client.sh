@@ -160,6 +160,13 @@ writes() {
     esac
 }
 
+# Puts the mark of the sums $1, as the file $2 has it. It has no signature: a mark decides no more than whether a text is made
+# before the compiler runs.
+put_mark() {
+    if ! writes || ! is_up; then return 1; fi
+    "put_$cck_protocol" mark "$1" "$2"
+}
+
 # Whether the server has the object $1 that this call did not ask for. One that is damaged was asked for.
 has_object() {
     case $cck_sought in

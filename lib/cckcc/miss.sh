@@ -336,11 +336,16 @@ shares_text() {
     esac
 }
 
-# Sets `cck_seen` to the path of the marks of this input: a line for each recorded call of an input of this name, with the sums
-# of the call and of the input, and how the text showed macros. With a base directory it may be that of another directory.
+# Sets `cck_seen` to the path of a file with marks of recorded calls: a line for each, with the sums of the call and of its
+# input, and how the text showed macros. In the directory it is for inputs of this name and, with a base directory, also of
+# another directory. A server has marks by these sums.
 name_mark() {
     cck_seen=
-    [ -z "$CCK_BASEDIR" ] || shares_text || return 0
+    [ -z "$cck_server$CCK_BASEDIR" ] || shares_text || return 0
+    if [ -n "$cck_server" ]; then
+        cck_seen=$cck_scratch/marks
+        return
+    fi
     case $cck_input in
     /*) cck_above=${cck_input%/*} ;;
     */*) cck_above=$PWD/${cck_input%/*} ;;
@@ -372,37 +377,45 @@ END
 # Sets `cck_sum` to both sums, each with the number of bytes. It fails where there are not both.
 read_sum() {
     { read -r cck_sum cck_size cck_next && read -r cck_input_sum cck_input_size cck_next; } < "$cck_scratch/sum" || return
-    cck_sum="$cck_sum $cck_size $cck_input_sum $cck_input_size"
+    cck_sum=$cck_sum-$cck_size-$cck_input_sum-$cck_input_size
 } 2>/dev/null
 
-# Whether the directory may have the object of the text, by the marks of the input: `cck_marks` are those of calls with the same
-# sums. Where the call has an entry, a header has changed, and with it the name of the object, but for what another directory
-# has. The words are those of the call.
+# Whether the store may have the object of the text, by the marks of calls with the same sums, which are `cck_marks`. Where the
+# call has an entry in the directory, a header has changed, and with it the name of the object, but for what another
+# directory has. The words are those of the call.
 may_have_text() {
-    [ -n "$cck_seen" ] && [ -e "$cck_seen" ] || return 1
-    find_place entries "$cck_key"
-    [ -n "$CCK_BASEDIR" ] || [ ! -e "$cck_place/$cck_key" ] || return 1
-    sum_call "$@" && read_sum && cck_marks=$(grep -F -e "$cck_sum " "$cck_seen" 2>/dev/null)
+    [ -n "$cck_seen" ] || return 1
+    if [ -z "$cck_server" ]; then
+        [ -e "$cck_seen" ] || return 1
+        find_place entries "$cck_key"
+        [ -n "$CCK_BASEDIR" ] || [ ! -e "$cck_place/$cck_key" ] || return 1
+    fi
+    sum_call "$@" && read_sum || return
+    [ -z "$cck_server" ] || get mark "$cck_sum" "$cck_seen" || return
+    cck_marks=$(grep -F -e "$cck_sum " "$cck_seen" 2>/dev/null)
 }
 
-# Whether there may be an object of a text that shows macros by the option $1. A server has no marks.
-may_have_shown() {
-    [ -z "$cck_server" ] || return 0
+# Whether the store may have an object of a text that shows macros by the option $1.
+is_marked() {
     case $cck_marks in
     *" $1"*) return 0 ;;
     esac
     return 1
 }
 
-# Adds the mark of this call, before those of the last 15 others.
+# Marks this call, before the last 15 others.
 write_mark() {
     [ -n "$cck_seen" ] && read_sum || return 0
-    cck_mark="$cck_sum ${cck_macros%% *}"
-    cck_marks=$cck_mark cck_number=1
+    cck_next="$cck_sum ${cck_macros%% *}"
+    cck_marks=$cck_next cck_number=1
     [ ! -e "$cck_seen" ] || while [ $cck_number -lt 16 ] && IFS= read -r cck_line; do
-        [ "$cck_line" != "$cck_mark" ] || continue
+        [ "$cck_line" != "$cck_next" ] || continue
         cck_marks=$cck_marks$cck_newline$cck_line cck_number=$((cck_number + 1))
     done < "$cck_seen"
+    if [ -n "$cck_server" ]; then
+        printf '%s\n' "$cck_marks" > "$cck_seen" && put_mark "$cck_sum" "$cck_seen"
+        return
+    fi
     (share; [ -d "$cck_store/inputs" ] || mkdir -p "$cck_store/inputs"; printf '%s\n' "$cck_marks" > "$cck_seen") 2>/dev/null
 }
 
@@ -575,7 +588,7 @@ cck_entry_out=
 { find_script text.sh && . "$cck_script"; } || { cck_found='passed no-tool'; pass_on "$@"; }
 # The preprocessor runs beside the compiler, unless the object of its text may be there.
 name_mark
-if [ -n "$cck_server" ] || may_have_text "$@"; then
+if may_have_text "$@"; then
     write_text "$@" 2>/dev/null
     find_text "$@"
 else
@@ -632,7 +645,8 @@ log "$cck_found $cck_input"
 case $cck_found in
 recorded*)
     cck_object=${cck_found#recorded }
-    if [ -n "$cck_server" ]; then send; else write_mark; fi
+    [ -z "$cck_server" ] || send || exit 0
+    write_mark
     ;;
 refused*) ;;
 *) count record-error ;;

@@ -726,9 +726,8 @@ write_text() {
 # text with all macros gives: that text is `all` from then on, and `cck_refused_all` says why it is not recorded.
 find_text() {
     if [ -e "$cck_scratch/failed" ] || [ -n "$cck_refused" ]; then return; fi
-    [ -z "$cck_server$CCK_BASEDIR" ] || shares_text || return
-    if may_have_shown "${cck_macros%% *}"; then look_for_text "$@"; fi
-    [ "$cck_macros" = -dU ] && may_have_shown -dD || return
+    if is_marked "${cck_macros%% *}"; then look_for_text "$@"; fi
+    [ "$cck_macros" = -dU ] && is_marked -dD || return
     mv "$cck_scratch/text" "$cck_scratch/used" 2>/dev/null
     cck_macros=-dD
     write_text "$@" 2>/dev/null

@@ -293,7 +293,7 @@ class Lighttpd(Nginx):
     name = "lighttpd"
 
     def start(self):
-        for kind in ("entry", "object"):
+        for kind in ("entry", "object", "mark"):
             for number in range(256):
                 (self.room / f"files/some/prefix/5/{kind}/{number:02x}").mkdir(parents=True, exist_ok=True)
         (self.room / "config").write_text(LIGHTTPD.format(room=self.room, port=self.port, secret=SECRET))
