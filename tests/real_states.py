@@ -197,7 +197,33 @@ def definitions(project):
     return None
 
 
-TESTS = (two_branches, many_states, at_once, removed, two_checkouts, definitions)
+def one_text(project):
+    """A call that is compiled is preprocessed once, also where the input was recorded with other arguments or in another
+    directory, and a call that is found by its text once too. Each text is judged by one `awk`."""
+    tools, runs = f"{project.room}/tools", f"{project.room}/runs"
+    os.mkdir(tools)
+    with open(f"{tools}/awk", "w", encoding="ascii") as file:
+        file.write(f'#!/bin/sh\necho >>{runs}\nexec {shutil.which("awk")} "$@"\n')
+    os.chmod(f"{tools}/awk", 0o755)
+    project.variables["PATH"] = f"{tools}:{project.variables['PATH']}"
+    other = Project(project.room, "other/project")
+    other.variables = project.variables
+    for each in (project, other):
+        each.switch(0)
+    for each, options, kind in ((project, [], "recorded"), (project, ["-O2"], "recorded"), (other, [], "recorded"),
+                                (project, ["-DNONE"], "hit"), (project, [], "hit"), (other, ["-O2"], "recorded")):
+        each.options = options
+        with open(runs, "w", encoding="ascii"):
+            pass
+        same, words = each.build(), each.logged()
+        wanted = SOURCES if words["look"] else 0
+        made = os.path.getsize(runs)
+        if not same or words[kind] != SOURCES or made != wanted:
+            return f"{each.place} with {options}: {same}, {dict(words)}, {made} texts"
+    return None
+
+
+TESTS = (two_branches, many_states, at_once, removed, two_checkouts, definitions, one_text)
 
 
 def main():
