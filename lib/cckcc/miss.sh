@@ -600,6 +600,13 @@ hold_object
 cck_status=$?
 # Where there was none the compiler runs again, as the call came: messages may be lost.
 if ! has_room; then wait; cck_found='no scratch'; pass_on "$@"; fi
+# Of a compiler that was killed the shell adds a line, but for two signals, and ends by the same signal.
+cck_signal=
+if [ $cck_status -gt 128 ]; then cck_signal=$(kill -l $cck_status 2>/dev/null); fi
+case $cck_signal in
+''|INT|PIPE) ;;
+*) sed -i '$d' "$cck_scratch/messages" ;;
+esac
 # The assembler writes standard output at its end.
 [ ! -s "$cck_scratch/messages" ] || cat "$cck_scratch/messages" >&2
 [ ! -s "$cck_scratch/output" ] || cat "$cck_scratch/output"
@@ -628,6 +635,7 @@ fi
 if [ $cck_status -ne 0 ] || [ -e "$cck_scratch/failed" ]; then
     log "not recorded (status $cck_status): $cck_input"
     count not-recorded-status
+    [ -z "$cck_signal" ] || end_by "$cck_signal"
     exit $cck_status
 fi
 if [ -n "$cck_refused" ]; then

@@ -33,7 +33,7 @@ preprocess_pedantic() {
 preprocess() {
     cck_warnings='-fno-canonical-system-headers -Wno-pedantic'
     ! is_cplusplus || cck_warnings='-fno-canonical-system-headers -Wno-error=pedantic -Wliteral-suffix'
-    ! is_clang || cck_warnings='-Wno-everything -Wdate-time -MD -MT listed -MF "$cck_scratch/$1-listed"'
+    ! is_clang || cck_warnings='-Wno-everything -Wdate-time -Rmodule-build -Rmodule-import -MD -MT listed -MF "$cck_scratch/$1-listed"'
     cck_preprocessor='LC_ALL=C "$cck_compiler"'
     case $cck_preprocessed in
     *-pedantic-errors*) is_clang || cck_preprocessor=preprocess_pedantic ;;
@@ -93,6 +93,7 @@ cck_reading='
             "|(#|%:|[?][?]=)[[:space:]]*([0-9/]|[\\])"
     }
     function read_line(line, whole) {
+        if (is_clang && !is_c && index(line, "R\"") && line ~ /#|%:|[?][?]=/ && goes_on(line)) reason = "header-test"
         if (is_assembler && (line ~ /as_inc|as_emb|HAS_INC/ || line ~ first_of_test)) reason = "header-test"
         if (calls && (index(line, "HAS_") || index(line, "INCLUDE") || index(line, "has_") || index(line, "include"))) {
             add_tested(line)
@@ -179,15 +180,15 @@ cck_reading='
         if (opens) { asks = 1; opens = 0 }
         if (close(file) != 0) asks = unread = 1
     }
-    function find_relevant(files, size, name, command, line, state, counted) {
-        for (name in projects) {
+    function find_relevant(names_of, pattern, files, size, name, command, line, state, counted) {
+        for (name in names_of) {
             if (name ~ /^[A-Za-z0-9_.,+@%=\/-]+$/ && name !~ /^\/dev\// && length(files) < 50000) {
                 files = files " " path_of(name)
                 size++
             } else relevant[path_of(name)]
         }
         if (!size) return 1
-        command = "{ grep -alzE \047" telling "\047" files "; echo $?; grep -aHcz \047\047" files "; } 2>/dev/null"
+        command = "{ grep -alzE \047" pattern "\047" files "; echo $?; grep -aHcz \047\047" files "; } 2>/dev/null"
         while ((command | getline line) > 0) {
             if (line ~ /^[0-9]+$/) state = line
             else if (state == "") relevant[line]
@@ -205,7 +206,7 @@ cck_reading='
         sub(/.*"/, "", flags)
         names[id] = name = substr(name, 2, length(name) - length(flags) - 2)
         step_of[id] = substr(flags, 1, 2)
-        if (index(name, "\\")) reason = "other-file"
+        if (index(name, "\\") || (is_clang && index(name, ".framework/"))) reason = "other-file"
         place = name
         if (is_clang) sub(/^\/usr\/bin\/\.\.\/lib\/gcc\/[^\/]+\/[0-9]+\/\.\.\/\.\.\/\.\.\/\.\.\/include\//, "/usr/include/", place)
         is_own[id] = index(place, ENVIRON["cck_own"]) == 1 && place !~ /\/\.\.\//
@@ -243,6 +244,11 @@ cck_reading='
             expanded[substr(line, RSTART, RLENGTH)]
             line = substr(line, RSTART + RLENGTH)
         }
+    }
+    function add_pragma(line) {
+        gsub(/"([^"\\]|\\.)*"/, "", line)
+        add_words(line)
+        expands = 1
     }
     function add_tested(line) {
         while (match(line, /(has_include|HAS_INCLUDE)[ \t\r\f\013]*[(][ \t\r\f\013]*</)) {
@@ -292,7 +298,10 @@ cck_reading='
         if (line ~ /^#include .* search starts here:$/) is_list = 1
         if (line == "End of search list.") is_list = 0
         if (is_list && line ~ /^ /) listed[substr(line, 2)]
-        if (sub(/^ignoring nonexistent directory "/, "", line)) listed[substr(line, 1, length(line) - 1)]
+        if (sub(/^ignoring nonexistent directory "/, "", line)) {
+            listed[substr(line, 1, length(line) - 1)]
+            print substr(line, 1, length(line) - 1) > (ENVIRON["cck_scratch"] "/ignored")
+        }
         if (line ~ /^ [^ ].* -cc1 /) {
             size = split(line, words, " ")
             is_given = 1
@@ -352,13 +361,19 @@ cck_reading='
         return 0
     }
     function next_word(line) {
-        if (!match(line, /"([^"\\]|\\.)*"|\047([^\047\\]|\\.)*\047|[0-9]([A-Za-z0-9_.]|\047[A-Za-z0-9_])*|[A-Za-z_$][A-Za-z0-9_$]*|[^ \t]/)) return 0
+        if (!match(line, /"([^"\\]|\\.)*"|\047([^\047\\]|\\.)*\047|[0-9]([eEpP][+-]|[A-Za-z0-9_.]|\047[A-Za-z0-9_])*|[A-Za-z_$][A-Za-z0-9_$]*|[^ \t]/)) return 0
         word = substr(line, RSTART, RLENGTH)
         rest = substr(line, RSTART + RLENGTH)
         return 1
     }
+    function is_doubtful(word, line) {
+        if (word == "\"" || word == "\047") return 1
+        if (word !~ /^[0-9]/) return 0
+        if (line ~ /^[^\t -\[\]-~]/) return 1
+        return index(word, "\047") && (is_c || standard < 201402 || word !~ /^(0[xX])?[0-9A-Fa-f]+(\047[0-9A-Fa-f]+)*[A-Za-z]*$/)
+    }
     function enters_raw(line) {
-        if (is_c || is_assembler || standard !~ /^20/ || !match(line, /^"[^ ()\\\t\013\f]*\(/)) return 0
+        if (is_c || is_assembler || standard < 201103 || !match(line, /^"[^ ()\\\t\013\f]*\(/)) return 0
         raw_end = ")" substr(line, 2, RLENGTH - 2) "\""
         rest = substr(line, RLENGTH + 1)
         return 1
@@ -387,6 +402,7 @@ cck_reading='
         }
         while (next_word(line)) {
             line = rest
+            if (is_doubtful(word, line)) reason = "assembler-include"
             if (word ~ /["\047]$/ && line ~ /^(u8|u|U|L)?R"/) reason = "assembler-include"
             if (word ~ /^(u8|u|U|L)?R$/ && line ~ /^"/) {
                 if (nesting > 0) reason = "assembler-include"
@@ -408,6 +424,7 @@ cck_reading='
         if (code ~ /\\[^nt"]|[{|]|\.$/) reason = "assembler-include"
         gsub(/\\n/, ";", code)
         gsub(/\\t/, " ", code)
+        if (code ~ /(^|[;:])[^A-Za-z;:]*%[A-Za-z]?([0-9]|\[)/ || (index(code, "/*") && index(code, "%"))) reason = "assembler-include"
         gsub(/\.(push)?section[ \t]+[A-Za-z0-9_.$-]+/, " ", code)
         while (match(code, /\.[A-Za-z0-9_$%\\]*/)) {
             word = substr(code, RSTART + 1, RLENGTH - 1)
@@ -444,6 +461,7 @@ cck_judging='
     !is_text {
         if (/warning: /) warns = 1
         if (/might prevent reproducible builds|time macro is not reproducible/) shows_time = 1
+        if (is_clang && /remark: (building|importing) module/) reason = "other-file"
         if (is_clang) read_search($0)
         next
     }
@@ -453,8 +471,9 @@ cck_judging='
         for (name in given)
             if (!(name in listed)) print "ignoring duplicate directory \"" name "\"" > (ENVIRON["cck_scratch"] "/left-out")
     }
-    is_clang && standard == "" && /^#define __cplusplus / { standard = $3 }
+    is_clang && standard == "" && /^#define __cplusplus / { standard = $3 + 0 }
     is_clang { is_raw = raw_end != "" }
+    is_clang && !is_raw && (/^#(define|undef) / ? !/asm|R"|struct|target|__has_include/ : nesting == 0 && !waits && !/#|asm|R"|target/) { next }
     is_raw || (is_clang && !/^#/ && (nesting > 0 || waits || /asm/ || /(^|[^A-Za-z0-9_])(u8|u|U|L)?R"/)) { read_code($0) }
     is_clang && !is_raw && /^#/ && index($0, "R\"") && begins_raw($0) { has_raw = has_code = 1 }
     is_clang && has_raw && /^#/ && /asm/ { has_code = 1 }
@@ -478,9 +497,10 @@ cck_judging='
     /^#define [^ (]+[(]([^)]*[ ,])?struct[ ,.)].*>[ \t]*struct/ { reason = "header-test" }
     /^#(include|include_next|import)[ \t].*>[ \t]*struct[ \t]*[0-9]/ { reason = "header-test" }
     !/^[ \t]*#[ \t]*pragma/ { next }
-    is_clang && !/pragma[ \t]+(((GCC|clang)[ \t]+(diagnostic|system_header|poison|visibility)|weak|message|STDC|(push|pop)_macro)[ \t(]|pack[ \t]*[(][a-z0-9_, \t]*[)])/ {
+    is_clang && !/^[ \t]*#[ \t]*pragma[ \t]+(((GCC|clang)[ \t]+(diagnostic|system_header|poison|visibility)|weak|message|STDC|(push|pop)_macro)[ \t(]|pack[ \t]*[(][a-z0-9_, \t]*[)])/ {
         shows_time = 1
     }
+    is_clang && !/^[ \t]*#[ \t]*pragma[ \t]+(GCC|clang)[ \t]+(diagnostic|system_header|poison)[ \t]/ { add_pragma($0) }
     is_clang && /diagnostic/ && (!/diagnostic[ \t]+(push|pop|[a-z]+[ \t]+"-W[A-Za-z0-9+=_-]+")[ \t]*$/ || /-Wdate-time|-Weverything/) {
         shows_time = 1
     }
@@ -501,11 +521,15 @@ cck_judging='
         print found ? "" : "alone"
         text = ENVIRON["cck_scratch"] "/text"
         if (reason == "") {
-            reads_all = calls || is_assembler || ENVIRON["cck_extended"] != "" || !find_relevant()
+            if (is_clang && !is_c) telling = telling "|R\""
+            reads_all = calls || is_assembler || ENVIRON["cck_extended"] != "" || !find_relevant(projects, telling)
             for (name in projects) if (reads_all || (path_of(name) in relevant)) read_file(name)
         }
         is_other = 1
-        if (reason == "" && (calls || is_assembler)) for (name in others) if (!(name in projects)) read_file(name)
+        if (reason == "" && (calls || is_assembler || (is_clang && !is_c))) {
+            reads_all = calls || is_assembler || !find_relevant(others, "R\"")
+            for (name in others) if (!(name in projects) && (reads_all || (path_of(name) in relevant))) read_file(name)
+        }
         if (unread && is_assembler) reason = "header-test"
         if (reason == "" && calls) {
             read_file(text)
@@ -518,6 +542,7 @@ cck_judging='
         if (asks && ((targets && sets_targets) || silences)) reason = "other-file"
         if (tests && parallel && ENVIRON["cck_extended"] != "") reason = "header-test"
         if (stands && is_macro(text)) reason = "header-test"
+        else if (expands && is_macro(text)) shows_time = 1
         if (nesting > 0 || raw_end != "" || (has_raw && has_code)) reason = "assembler-include"
         if (is_clang) write_places()
         print shows_time ? "time-macro" : reason
@@ -563,6 +588,13 @@ judge_files() {
     [ -s "$cck_scratch/equal" ] || return 0
     xargs -d '\n' sha256sum -- < "$cck_scratch/equal" |
         LC_ALL=C awk '$1 in sums { same = 1 } { sums[$1] } END { exit same || !NR }' || cck_refused=other-file
+}
+
+# Refuses a text of clang where a path of the list of directories is a file, which may become a map of headers.
+judge_ignored() {
+    [ ! -s "$cck_scratch/ignored" ] || while IFS= read -r cck_directory; do
+        [ ! -e "$cck_directory" ] || [ -d "$cck_directory" ] || cck_refused=other-file
+    done < "$cck_scratch/ignored"
 }
 
 # Adds to the list of directories what `judge_text` found to be left out.
@@ -716,7 +748,7 @@ write_text() {
         preprocess text "$cck_words"
     fi
     add_left_out
-    ! is_clang || judge_files
+    if is_clang; then judge_files; judge_ignored; fi
     judge_builtins
     judge_targets
     printf '%s\n' "$cck_refused" "$cck_macros" > "$cck_scratch/refused"
