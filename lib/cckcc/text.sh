@@ -28,8 +28,8 @@ preprocess_pedantic() {
 # (-dI), since it may pass over a copy of a header that was read, and the definitions of macros, since the key of an object
 # has no -D and -U. In C++ it warns of what follows a literal and is a macro when it is read, and not a suffix, which shows in
 # no other way. clang also lists the headers that it passes over (-MD), and warns of nothing but time macros: with
-# -pedantic-errors other warnings, of which some are not of -pedantic, would be errors. What is on standard input is for the
-# compiler.
+# -pedantic-errors other warnings, of which some are not of -pedantic, would be errors. It says that it builds or imports a
+# module, which no line of the text shows. What is on standard input is for the compiler.
 preprocess() {
     cck_warnings='-fno-canonical-system-headers -Wno-pedantic'
     ! is_cplusplus || cck_warnings='-fno-canonical-system-headers -Wno-error=pedantic -Wliteral-suffix'
@@ -453,9 +453,11 @@ cck_reading='
 # by way of its own directory. It assembles by itself, so that a text is refused whose code for the assembler has other
 # directives than some that read no file: its strings are put together, and no macro, alternative or operand of it makes the
 # name of a directive (`read_code`, `judge_code`). Raw strings of C++ are passed over, from C++11 on; what may begin one
-# otherwise hides what is code, so that a text with it and such code is refused (`begins_raw`). A pragma takes effect when it
-# preprocesses too, so that one that may turn off the warning of a time macro counts as one. So does another one than a few,
-# since the compiler may expand macros in it.
+# otherwise hides what is code, so that a text with it and such code is refused (`begins_raw`). So is one in which a quote or
+# a number near code may be read in another way (`is_doubtful`), and a source in which a directive goes on after a raw string
+# over lines. A pragma takes effect when it preprocesses too, so that one that may turn off the warning of a time macro counts
+# as one. So does another one than a few, and one with the name of a macro, since the compiler may expand macros in it alone.
+# A header of a framework may include one of a framework in it, for which the list of directories has no place.
 cck_judging='
     is_rule { read_rule($0); next }
     !is_text {
