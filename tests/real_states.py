@@ -220,6 +220,15 @@ def one_text(project):
         made = os.path.getsize(runs)
         if not same or words[kind] != SOURCES or made != wanted:
             return f"{each.place} with {options}: {same}, {dict(words)}, {made} texts"
+    # After a change of a header too, where there is a base directory and the change is of no other directory.
+    project.share()
+    for state in range(3):
+        project.switch(state)
+        with open(runs, "w", encoding="ascii"):
+            pass
+        same, words = project.build(), project.logged()
+        if not same or words["recorded"] == 0 or os.path.getsize(runs) != words["recorded"]:
+            return f"state {state}: {same}, {dict(words)}, {os.path.getsize(runs)} texts"
     return None
 
 

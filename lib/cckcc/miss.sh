@@ -337,8 +337,8 @@ shares_text() {
 }
 
 # Sets `cck_seen` to the path of a file with marks of recorded calls: a line for each, with the sums of the call and of its
-# input, and how the text showed macros. In the directory it is for inputs of this name and, with a base directory, also of
-# another directory. A server has marks by these sums.
+# input, how the text showed macros and, in the directory, the preprocessor key. There it is for inputs of this name and, with
+# a base directory, also of another directory. A server has marks by these sums.
 name_mark() {
     cck_seen=
     [ -z "$cck_server$CCK_BASEDIR" ] || shares_text || return 0
@@ -382,17 +382,21 @@ read_sum() {
 
 # Whether the store may have the object of the text, by the marks of calls with the same sums, which are `cck_marks`. Where the
 # call has an entry in the directory, a header has changed, and with it the name of the object, but for what another
-# directory has. The words are those of the call.
+# directory has: then marks of the same key do not count. The words are those of the call.
 may_have_text() {
     [ -n "$cck_seen" ] || return 1
+    cck_without='no key'
     if [ -z "$cck_server" ]; then
         [ -e "$cck_seen" ] || return 1
         find_place entries "$cck_key"
-        [ -n "$CCK_BASEDIR" ] || [ ! -e "$cck_place/$cck_key" ] || return 1
+        if [ -e "$cck_place/$cck_key" ]; then
+            [ -n "$CCK_BASEDIR" ] || return 1
+            cck_without=$cck_key
+        fi
     fi
     sum_call "$@" && read_sum || return
     [ -z "$cck_server" ] || get mark "$cck_sum" "$cck_seen" || return
-    cck_marks=$(grep -F -e "$cck_sum " "$cck_seen" 2>/dev/null)
+    cck_marks=$(grep -F -e "$cck_sum " "$cck_seen" 2>/dev/null | grep -v -e "$cck_without")
 }
 
 # Whether the store may have an object of a text that shows macros by the option $1.
@@ -407,6 +411,7 @@ is_marked() {
 write_mark() {
     [ -n "$cck_seen" ] && read_sum || return 0
     cck_next="$cck_sum ${cck_macros%% *}"
+    [ -n "$cck_server" ] || cck_next="$cck_next $cck_key"
     cck_marks=$cck_next cck_number=1
     [ ! -e "$cck_seen" ] || while [ $cck_number -lt 16 ] && IFS= read -r cck_line; do
         [ "$cck_line" != "$cck_next" ] || continue
