@@ -247,6 +247,7 @@ cck_reading='
     }
     function add_pragma(line) {
         gsub(/"([^"\\]|\\.)*"/, "", line)
+        if (line ~ /(^|[^A-Za-z0-9_$])(__[A-Z_]+__|__(has|is|building)_[a-z_]*|_Pragma|__pragma|__identifier)([^A-Za-z0-9_$]|$)/) shows_time = 1
         add_words(line)
         expands = 1
     }
@@ -499,7 +500,7 @@ cck_judging='
     /^#define [^ (]+[(]([^)]*[ ,])?struct[ ,.)].*>[ \t]*struct/ { reason = "header-test" }
     /^#(include|include_next|import)[ \t].*>[ \t]*struct[ \t]*[0-9]/ { reason = "header-test" }
     !/^[ \t]*#[ \t]*pragma/ { next }
-    is_clang && !/^[ \t]*#[ \t]*pragma[ \t]+(((GCC|clang)[ \t]+(diagnostic|system_header|poison|visibility)|weak|message|STDC|(push|pop)_macro)[ \t(]|pack[ \t]*[(][a-z0-9_, \t]*[)])/ {
+    is_clang && !/^[ \t]*#[ \t]*pragma[ \t]+(((GCC|clang)[ \t]+(diagnostic|system_header|poison|visibility|loop)|unroll|nounroll|weak|message|STDC|(push|pop)_macro)([ \t(]|$)|pack[ \t]*[(][a-z0-9_, \t]*[)])/ {
         shows_time = 1
     }
     is_clang && !/^[ \t]*#[ \t]*pragma[ \t]+(GCC|clang)[ \t]+(diagnostic|system_header|poison)[ \t]/ { add_pragma($0) }
