@@ -93,7 +93,7 @@ cck_reading='
             "|(#|%:|[?][?]=)[[:space:]]*([0-9/]|[\\])"
     }
     function read_line(line, whole) {
-        if (is_clang && !is_c && index(line, "R\"") && line ~ /#|%:|[?][?]=/ && goes_on(line)) reason = "header-test"
+        if (is_clang && !is_c && index(line, "R\"") && line ~ /#|%:|[?][?]=|[*]\// && goes_on(line)) reason = "header-test"
         if (is_assembler && (line ~ /as_inc|as_emb|HAS_INC/ || line ~ first_of_test)) reason = "header-test"
         if (calls && (index(line, "HAS_") || index(line, "INCLUDE") || index(line, "has_") || index(line, "include"))) {
             add_tested(line)
@@ -247,7 +247,7 @@ cck_reading='
     }
     function add_pragma(line) {
         gsub(/"([^"\\]|\\.)*"/, "", line)
-        if (line ~ /(^|[^A-Za-z0-9_$])(__[A-Z_]+__|__(has|is|building)_[a-z_]*|_Pragma|__pragma|__identifier)([^A-Za-z0-9_$]|$)/) shows_time = 1
+        if (line ~ /(^|[^A-Za-z0-9_])_[A-Z_]|[$]|[^\t -~]/) shows_time = 1
         add_words(line)
         expands = 1
     }
@@ -325,7 +325,10 @@ cck_reading='
         sub(/^listed: */, "", line)
         if (line ~ /[\\$]/) reason = "other-file"
         size = split(line, words, " ")
-        for (at = 1; at <= size; at++) passed[place_of(words[at])]
+        for (at = 1; at <= size; at++) {
+            passed[place_of(words[at])]
+            if (index(words[at], ".framework/")) reason = "other-file"
+        }
     }
     function place_of(name, size, words, at, place) {
         if (name !~ /^\//) name = ENVIRON["cck_place"] "/" name
@@ -357,7 +360,7 @@ cck_reading='
         for (name in listed) if (index(place, place_of(name) "/") == 1) {
             name = place
             sub(/.*\//, "", name)
-            return !(name in included)
+            return !(name in included) && (index(place, "/usr/include/") == 1 || index(place, place_of(ENVIRON["cck_own"]) "/") == 1)
         }
         return 0
     }
@@ -369,7 +372,9 @@ cck_reading='
     }
     function is_doubtful(word, line) {
         if (word == "\"" || word == "\047") return 1
+        if (word ~ /^["\047]/) return word ~ /[^A-Za-z0-9_$](__)?asm(__)?[^A-Za-z0-9_$]/
         if (word !~ /^[0-9]/) return 0
+        if (index(word, "asm")) return 1
         if (line ~ /^[^\t -\[\]-~]/) return 1
         return index(word, "\047") && (is_c || standard < 201402 || word !~ /^(0[xX])?[0-9A-Fa-f]+(\047[0-9A-Fa-f]+)*[A-Za-z]*$/)
     }
@@ -425,7 +430,7 @@ cck_reading='
         if (code ~ /\\[^nt"]|[{|]|\.$/) reason = "assembler-include"
         gsub(/\\n/, ";", code)
         gsub(/\\t/, " ", code)
-        if (code ~ /(^|[;:])[^A-Za-z;:]*%[A-Za-z]?([0-9]|\[)/ || (index(code, "/*") && index(code, "%"))) reason = "assembler-include"
+        if (code ~ /(^|[;:])[^A-Za-z;:]*%[A-Za-z]?([0-9]|\[)/ || (code ~ /["#]|\/[\/*]/ && index(code, "%"))) reason = "assembler-include"
         gsub(/\.(push)?section[ \t]+[A-Za-z0-9_.$-]+/, " ", code)
         while (match(code, /\.[A-Za-z0-9_$%\\]*/)) {
             word = substr(code, RSTART + 1, RLENGTH - 1)
@@ -477,7 +482,7 @@ cck_judging='
     is_clang && standard == "" && /^#define __cplusplus / { standard = $3 + 0 }
     is_clang { is_raw = raw_end != "" }
     is_clang && !is_raw && (/^#(define|undef) / ? !/asm|R"|struct|target|__has_include/ : nesting == 0 && !waits && !/#|asm|R"|target/) { next }
-    is_raw || (is_clang && !/^#/ && (nesting > 0 || waits || /asm/ || /(^|[^A-Za-z0-9_])(u8|u|U|L)?R"/)) { read_code($0) }
+    is_raw || (is_clang && !/^#([a-z_]| [0-9])/ && (nesting > 0 || waits || /asm/ || /(^|[^A-Za-z0-9_])(u8|u|U|L)?R"/)) { read_code($0) }
     is_clang && !is_raw && /^#/ && index($0, "R\"") && begins_raw($0) { has_raw = has_code = 1 }
     is_clang && has_raw && /^#/ && /asm/ { has_code = 1 }
     is_clang && /[^\t -~](u8|u|U|L)?R"/ { has_raw = has_code = 1 }
@@ -500,7 +505,7 @@ cck_judging='
     /^#define [^ (]+[(]([^)]*[ ,])?struct[ ,.)].*>[ \t]*struct/ { reason = "header-test" }
     /^#(include|include_next|import)[ \t].*>[ \t]*struct[ \t]*[0-9]/ { reason = "header-test" }
     !/^[ \t]*#[ \t]*pragma/ { next }
-    is_clang && !/^[ \t]*#[ \t]*pragma[ \t]+(((GCC|clang)[ \t]+(diagnostic|system_header|poison|visibility|loop)|unroll|nounroll|weak|message|STDC|(push|pop)_macro)([ \t(]|$)|pack[ \t]*[(][a-z0-9_, \t]*[)])/ {
+    is_clang && !/^[ \t]*#[ \t]*pragma[ \t]+(((GCC|clang)[ \t]+(diagnostic|system_header|poison|visibility|loop)|unroll|nounroll|weak|message|STDC|(push|pop)_macro)([ \t(]|$)|pack[ \t]*[(][a-z0-9_, \t]*[)][ \t]*$)/ {
         shows_time = 1
     }
     is_clang && !/^[ \t]*#[ \t]*pragma[ \t]+(GCC|clang)[ \t]+(diagnostic|system_header|poison)[ \t]/ { add_pragma($0) }
@@ -769,6 +774,7 @@ find_text() {
     if [ ! -e "$cck_scratch/failed" ] && [ -z "$cck_refused" ]; then look_for_text "$@"; fi
     { mv "$cck_scratch/text" "$cck_scratch/all"; mv "$cck_scratch/used" "$cck_scratch/text"; } 2>/dev/null
     cck_macros=-dU cck_refused_all=$cck_refused cck_refused=
+    printf '%s\n' '' -dU > "$cck_scratch/refused"
 }
 
 # Takes the text with all macros: messages may name some that are not used. The words are those of the call.
