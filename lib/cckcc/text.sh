@@ -452,18 +452,19 @@ cck_reading='
 # a macro that the text does not show. What is pasted after `> struct` is the name of a class, unless `struct` is a macro,
 # or a parameter of that definition.
 #
-# clang gives directories that are one the first of their names: of each other name it is written, as gcc does, that it is
-# left out (`read_search`). A file that it lists and did not enter was passed over by another name, unless no directive has
-# that name and it is in a directory of the list: then a test asks for it (`read_rule`, `write_places`). It enters a file for
-# the macros that it defines itself and one for those of the arguments, and then returns to the input. It names headers of gcc
-# by way of its own directory. It assembles by itself, so that a text is refused whose code for the assembler has other
-# directives than some that read no file: its strings are put together, and no macro, alternative or operand of it makes the
-# name of a directive (`read_code`, `judge_code`). Raw strings of C++ are passed over, from C++11 on; what may begin one
-# otherwise hides what is code, so that a text with it and such code is refused (`begins_raw`). So is one in which a quote or
-# a number near code may be read in another way (`is_doubtful`), and a source in which a directive goes on after a raw string
-# over lines. A pragma takes effect when it preprocesses too, so that one that may turn off the warning of a time macro counts
-# as one. So does another one than a few, and one with the name of a macro, since the compiler may expand macros in it alone.
-# A header of a framework may include one of a framework in it, for which the list of directories has no place.
+# clang gives directories that are one the first of their names: of each other name it is written, as gcc does, that it is left
+# out (`read_search`). A file that it lists and did not enter was passed over by another name, unless no directive has that
+# name and it is a header of the system: then a test asks for it (`read_rule`, `write_places`). One of the project may be a
+# hard link to a file of the text, or become one. It enters a file for the macros that it defines itself and one for those of
+# the arguments, and then returns to the input. It names headers of gcc by way of its own directory. It assembles by itself, so
+# that a text is refused whose code for the assembler has other directives than some that read no file: its strings are put
+# together, and no macro, alternative or operand of it makes the name of a directive (`read_code`, `judge_code`). Raw strings
+# of C++ are passed over, from C++11 on; what may begin one otherwise hides what is code, so that a text with it and such code
+# is refused (`begins_raw`). So is one in which a quote or a number near code may be read in another way, or a literal has the
+# word of such code (`is_doubtful`), and a source in which a directive goes on after a raw string over lines. A pragma takes
+# effect when it preprocesses too, so that one that may turn off the warning of a time macro counts as one. So does another one
+# than a few, and one with the name of a macro, since the compiler may expand macros in it alone. A header of a framework may
+# include one of a framework in it, for which the list of directories has no place.
 cck_judging='
     is_rule { read_rule($0); next }
     !is_text {
@@ -574,6 +575,7 @@ list_lines() {
 # pragmas that save macros hide uses, and warnings may name others.
 judge_text() {
     true > "$cck_scratch/left-out"
+    true > "$cck_scratch/ignored"
     list_lines
     cck_own=$cck_own cck_extended=$cck_extended cck_targets=$cck_targets cck_is_c=$cck_is_c cck_is_assembler=$cck_is_assembler \
         cck_is_clang=$cck_is_clang cck_scratch=$cck_scratch cck_place=${cck_is_clang:+$(pwd -P)} GREP_OPTIONS= LC_ALL=C \
