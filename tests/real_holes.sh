@@ -346,7 +346,8 @@ check '-Wa,' 'passed on (assembler-option)*' same -c x.c -Ib -Wa,-L
 check '-Wa, of the table' 'recorded*' same -c x.c -Ib -Wa,--noexecstack
 echo '-Ib' >options
 check '@file' 'passed on (response-file)*' same -c x.c @options
-check '-x' 'passed on (mode)*' same -x c -c x.c -Ib
+check '-x of C' 'recorded*' same -x c -c x.c -Ib
+check '-x of another language' 'passed on (mode)*' same -x c++ -c x.c -Ib
 : >empty.c
 check '-x and its value in one word' 'passed on (mode)*' same -xassembler-with-cpp -c empty.c
 
