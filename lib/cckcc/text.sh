@@ -81,6 +81,7 @@ cck_reading='
         if (length(sprintf("%c", 0)) != 1) reason = "other-file"
         known = "text|data|bss|previous|popsection|p2align|balign|align|byte|[248]byte|short|word|value|long|int|quad|ascii" \
             "|asciz|string|zero|skip|space|globl|global|weak|hidden|local|comm|type|size|set|symver|ident"
+        spaces = "\302[\205\240]|\341\232\200|\341\240\216|\342\200[\200-\212\250\251\257]|\342\201\237|\343\200\200"
         first_of_test = "__ha(s(_(i(n(c(l(u(de?)?)?)?)?)?|e(m(b(ed?)?)?)?)?)?)?([^A-Za-z0-9_$]|$)"
         blank = "[ \t\r\f\013]"
         comment = "/[*]([^*]|[*]+[^*/])*"
@@ -93,6 +94,7 @@ cck_reading='
             "|(#|%:|[?][?]=)[[:space:]]*([0-9/]|[\\])"
     }
     function read_line(line, whole) {
+        if (is_clang && line ~ spaces) has_spaces = 1
         if (is_clang && !is_c && index(line, "R\"") && line ~ /#|%:|[?][?]=|[*]\// && goes_on(line)) reason = "header-test"
         if (is_assembler && (line ~ /as_inc|as_emb|HAS_INC/ || line ~ first_of_test)) reason = "header-test"
         if (calls && (index(line, "HAS_") || index(line, "INCLUDE") || index(line, "has_") || index(line, "include"))) {
@@ -246,8 +248,9 @@ cck_reading='
         }
     }
     function add_pragma(line) {
+        if (index(line, "\047")) shows_time = 1
         gsub(/"([^"\\]|\\.)*"/, "", line)
-        if (line ~ /(^|[^A-Za-z0-9_])_[A-Z_]|[$]|[^\t -~]/) shows_time = 1
+        if (line ~ /(^|[^A-Za-z0-9_])_[A-Z_]|[$\\]|[^\t -~]/) shows_time = 1
         add_words(line)
         expands = 1
     }
@@ -286,7 +289,7 @@ cck_reading='
         return close(file) != 0
     }
     function goes_on(line, begun, place) {
-        while (match(line, /(^|[^A-Za-z0-9_])(u8|u|U|L)?R"[^ ()\\\t]*\(/)) {
+        while (match(line, /(^|[^A-Za-z0-9_]|\\[uU][0-9A-Fa-f]+)(u8|u|U|L)?R"[^ ()\\\t]*\(/)) {
             begun = substr(line, RSTART, RLENGTH - 1)
             place = RSTART + index(begun, "R\"")
             begun = substr(begun, index(begun, "R\"") + 2)
@@ -371,7 +374,7 @@ cck_reading='
         return 1
     }
     function is_doubtful(word, line) {
-        if (word == "\"" || word == "\047") return 1
+        if (word ~ /^["\047\\]$/) return 1
         if (word ~ /^["\047]/) return word ~ /[^A-Za-z0-9_$](__)?asm(__)?[^A-Za-z0-9_$]/
         if (word !~ /^[0-9]/) return 0
         if (index(word, "asm")) return 1
@@ -394,7 +397,7 @@ cck_reading='
     function begins_raw(line) {
         while (next_word(line)) {
             line = rest
-            if (word ~ /["\047]$/ && line ~ /^(u8|u|U|L)?R"/) return 1
+            if (word == "\\" || (word ~ /["\047]$/ && line ~ /^(u8|u|U|L)?R"/)) return 1
             if (word !~ /^(u8|u|U|L)?R$/ || line !~ /^"/) continue
             if (!enters_raw(line) || !leaves_raw(rest)) return 1
             line = rest
@@ -425,6 +428,10 @@ cck_reading='
             else if (waits && word == "(") { nesting = has_code = 1; waits = 0; code = "" }
             else if (word !~ /^(volatile|__volatile|__volatile__|goto|inline|__inline|__inline__)$/) waits = 0
         }
+    }
+    function names_freely(line) {
+        gsub(/(weakref|abi_tag)(__)?[ \t]*[(][ \t]*"[A-Za-z0-9_.]*"[ \t]*[)]/, "", line)
+        return line ~ /weakref|abi_tag/
     }
     function judge_code(code, word) {
         if (code ~ /\\[^nt"]|[{|]|\.$/) reason = "assembler-include"
@@ -482,8 +489,11 @@ cck_judging='
     }
     is_clang && standard == "" && /^#define __cplusplus / { standard = $3 + 0 }
     is_clang { is_raw = raw_end != "" }
-    is_clang && !is_raw && (/^#(define|undef) / ? !/asm|R"|struct|target|__has_include/ : nesting == 0 && !waits && !/#|asm|R"|target/) { next }
-    is_raw || (is_clang && !/^#([a-z_]| [0-9])/ && (nesting > 0 || waits || /asm/ || /(^|[^A-Za-z0-9_])(u8|u|U|L)?R"/)) { read_code($0) }
+    is_clang && $0 ~ spaces { reason = "other-file" }
+    is_clang && !is_raw && (/^#(define|undef) / ? !/asm|R"|struct|target|__has_include|##|__VA_OPT__/ : nesting == 0 && !waits && !/#|asm|R"|target|weakref|abi_tag/) { next }
+    is_clang && /^#define [^ (]+[(][^)]*[.][.][.][)].*(##|__VA_OPT__)/ { pastes = 1 }
+    is_clang && /weakref|abi_tag/ && names_freely($0) { has_names = 1 }
+    is_raw || (is_clang && !/^#([a-z_]| [0-9])/ && (nesting > 0 || waits || /asm|R"/)) { read_code($0) }
     is_clang && !is_raw && /^#/ && index($0, "R\"") && begins_raw($0) { has_raw = has_code = 1 }
     is_clang && has_raw && /^#/ && /asm/ { has_code = 1 }
     is_clang && /[^\t -~](u8|u|U|L)?R"/ { has_raw = has_code = 1 }
@@ -530,13 +540,13 @@ cck_judging='
         print found ? "" : "alone"
         text = ENVIRON["cck_scratch"] "/text"
         if (reason == "") {
-            if (is_clang && !is_c) telling = telling "|R\""
+            if (is_clang) telling = telling "|R\"|" spaces
             reads_all = calls || is_assembler || ENVIRON["cck_extended"] != "" || !find_relevant(projects, telling)
             for (name in projects) if (reads_all || (path_of(name) in relevant)) read_file(name)
         }
         is_other = 1
-        if (reason == "" && (calls || is_assembler || (is_clang && !is_c))) {
-            reads_all = calls || is_assembler || !find_relevant(others, "R\"")
+        if (reason == "" && (calls || is_assembler || (is_clang && (!is_c || pastes)))) {
+            reads_all = calls || is_assembler || !find_relevant(others, "R\"|" spaces)
             for (name in others) if (!(name in projects) && (reads_all || (path_of(name) in relevant))) read_file(name)
         }
         if (unread && is_assembler) reason = "header-test"
@@ -552,7 +562,8 @@ cck_judging='
         if (tests && parallel && ENVIRON["cck_extended"] != "") reason = "header-test"
         if (stands && is_macro(text)) reason = "header-test"
         else if (expands && is_macro(text)) shows_time = 1
-        if (nesting > 0 || raw_end != "" || (has_raw && has_code)) reason = "assembler-include"
+        if (nesting > 0 || raw_end != "" || ((has_raw || has_names) && has_code)) reason = "assembler-include"
+        if (has_spaces && pastes) reason = "other-file"
         if (is_clang) write_places()
         print shows_time ? "time-macro" : reason
         print doubts (asks ? " builtins" : "")
