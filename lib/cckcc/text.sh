@@ -67,6 +67,8 @@ find_own() {
 # those of all names that a file has in brackets after what may be such a macro; and no file and no macro may have two words
 # that make the macro's name, of which those are kept that have a part of its end. `goes_on` says whether a raw string may go
 # on in the next line: what looks like its beginning counts in a string too.
+# `spaces` are what clang takes for blanks where it compiles, and not where it preprocesses: an argument of a macro that asks
+# whether it is empty, by `__VA_OPT__` or `##`, may be so there alone (`pastes`).
 #
 # An awk in which a string ends at a zero byte would not see what is after it, so that each text is refused.
 # A file has nothing for `read_line` unless it has what `telling` matches, with splices, or a byte that is zero, where grep takes
