@@ -467,13 +467,14 @@ cck_reading='
 # hard link to a file of the text, or become one. It enters a file for the macros that it defines itself and one for those of
 # the arguments, and then returns to the input. It names headers of gcc by way of its own directory. It assembles by itself, so
 # that a text is refused whose code for the assembler has other directives than some that read no file: its strings are put
-# together, and no macro, alternative or operand of it makes the name of a directive (`read_code`, `judge_code`). Raw strings
-# of C++ are passed over, from C++11 on; what may begin one otherwise hides what is code, so that a text with it and such code
-# is refused (`begins_raw`). So is one in which a quote or a number near code may be read in another way, or a literal has the
-# word of such code (`is_doubtful`), and a source in which a directive goes on after a raw string over lines. A pragma takes
-# effect when it preprocesses too, so that one that may turn off the warning of a time macro counts as one. So does another one
-# than a few, and one with the name of a macro, since the compiler may expand macros in it alone. A header of a framework may
-# include one of a framework in it, for which the list of directories has no place.
+# together, and no macro, alternative or operand of it makes the name of a directive (`read_code`, `judge_code`), nor the name
+# of a symbol that the text gives freely (`names_freely`). Raw strings of C++ are passed over, from C++11 on; what may begin
+# one otherwise hides what is code, so that a text with it and such code is refused (`begins_raw`). So is one in which a quote
+# or a number near code may be read in another way, or a literal has the word of such code (`is_doubtful`), and a source in
+# which a directive goes on after a raw string over lines. A pragma takes effect when it preprocesses too, so that one that may
+# turn off the warning of a time macro counts as one. So does another one than a few, and one with the name of a macro, since
+# the compiler may expand macros in it alone. A header of a framework may include one of a framework in it, for which the list
+# of directories has no place.
 cck_judging='
     is_rule { read_rule($0); next }
     !is_text {
