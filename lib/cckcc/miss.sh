@@ -211,25 +211,19 @@ lists_headers() {
     esac
 }
 
-# Runs the compiler on the compiler's words of a call, and has the assembler say what it reads, and the compiler
+# Becomes the compiler on the compiler's words of a call, and has the assembler say what it reads, and the compiler
 # what it opens, unless its dependency file does. In clang the assembler is a part of the compiler, which says nothing of
 # it: what is assembled is judged (`judge_text`).
 compile() {
     while [ "$1" != -- ]; do shift; done
     shift
     if lists_headers "$@"; then
-        CC_PRINT_HEADERS=1 CC_PRINT_HEADERS_FILE=$cck_scratch/headers "$cck_compiler" "$@"
-        return
-    elif is_clang; then
-        "$cck_compiler" "$@"
-        return
+        export CC_PRINT_HEADERS=1 CC_PRINT_HEADERS_FILE="$cck_scratch/headers"
+    elif ! is_clang; then
+        set -- "$@" -Xassembler --MD -Xassembler "$cck_scratch/assembled"
+        [ -n "$cck_dependencies" ] || export SUNPRO_DEPENDENCIES="$cck_scratch/opened"
     fi
-    set -- "$@" -Xassembler --MD -Xassembler "$cck_scratch/assembled"
-    if [ -n "$cck_dependencies" ]; then
-        "$cck_compiler" "$@"
-    else
-        SUNPRO_DEPENDENCIES="$cck_scratch/opened" "$cck_compiler" "$@"
-    fi
+    exec "$cck_compiler" "$@"
 }
 
 # Writes what clang opened, and what it assembled, as dependency files.
@@ -528,12 +522,12 @@ hold_object() {
     { command exec 7< "$cck_out"; } 2>/dev/null && cck_held=1
 }
 
-# Runs the compiler without the descriptor of what is held.
+# Runs the compiler without the descriptor of what is held, and keeps what it prints. What the shell says of it is apart.
 compile_anew() {
-    case $cck_held in
-    1) compile "$@" 7<&- ;;
-    *) compile "$@" ;;
-    esac
+    (
+        [ "$cck_held" != 1 ] || exec 7<&-
+        compile "$@"
+    ) > "$cck_scratch/output" 2> "$cck_scratch/messages"
 }
 
 # Whether the compiler made an object: each makes it anew, so one that was there, and still is, is of another call.
@@ -601,17 +595,13 @@ else
     cck_text=$!
 fi
 hold_object
-{ compile_anew "$@" > "$cck_scratch/output" 2> "$cck_scratch/messages"; } 2>/dev/null
-cck_status=$?
+# The shell says that a program was killed, but for two signals. Without that the compiler ended itself with this status, as
+# clang does after a crash.
+{ compile_anew "$@" 2> "$cck_scratch/killed"; } 2>/dev/null
+cck_status=$? cck_signal=
+if [ $cck_status -gt 128 ] && [ -s "$cck_scratch/killed" ]; then cck_signal=$(kill -l $cck_status 2>/dev/null); fi
 # Where there was none the compiler runs again, as the call came: messages may be lost.
 if ! has_room; then wait; cck_found='no scratch'; pass_on "$@"; fi
-# Of a compiler that was killed the shell adds a line, but for two signals, and ends by the same signal.
-cck_signal=
-if [ $cck_status -gt 128 ]; then cck_signal=$(kill -l $cck_status 2>/dev/null); fi
-case $cck_signal in
-''|INT|PIPE) ;;
-*) sed -i '$d' "$cck_scratch/messages" ;;
-esac
 # The assembler writes standard output at its end.
 [ ! -s "$cck_scratch/messages" ] || cat "$cck_scratch/messages" >&2
 [ ! -s "$cck_scratch/output" ] || cat "$cck_scratch/output"

@@ -453,13 +453,13 @@ cck_reading='
 # In C a pragma that sets macros of the target, or attributes that are known, is run by the compiler alone. The compiler's own
 # headers set them back to what the target has, but for one macro (`changes_targets`), and include none of the project. The
 # compiler knows declarations, by which `__has_builtin` is 0, and more builtin functions of the target after an attribute,
-# whose names may be pasted. A file between `<` and `>` is named as what the compiler defines itself. A backslash or a quote in a name has a
-# backslash before it, which nothing takes away. A line directive enters no file; a marker in a source, or in a raw string
-# over lines, is not told from one of gcc. After the input has begun, a marker with another name that neither enters nor
-# leaves a file is of a line directive. With OpenMP or OpenACC the compiler expands macros in a pragma, which an operator
-# may make of any line. In a pragma of diagnostics or of visibility it expands none; one that turns a warning on may warn of
-# a macro that the text does not show. What is pasted after `> struct` is the name of a class, unless `struct` is a macro,
-# or a parameter of that definition.
+# whose names may be pasted. A file between `<` and `>` is named as what the compiler defines itself. A backslash or a quote in
+# a name has a backslash before it, which nothing takes away. A line directive enters no file; a marker in a source, or in a
+# raw string over lines, is not told from one of gcc. After the input has begun, a marker with another name that neither enters
+# nor leaves a file is of a line directive. With OpenMP or OpenACC the compiler expands macros in a pragma, which an operator
+# may make of any line. In a pragma of diagnostics or of visibility it expands none; one that turns a warning on may warn of a
+# macro that the text does not show. What is pasted after `> struct` is the name of a class, unless `struct` is a macro, or a
+# parameter of that definition.
 #
 # clang gives directories that are one the first of their names: of each other name it is written, as gcc does, that it is left
 # out (`read_search`). A file that it lists and did not enter was passed over by another name, unless no directive has that
