@@ -5,6 +5,7 @@ use Rattle.cck_digest.specs.Frames.{length_bytes}
 use Rattle.cck_include.specs.TimePart.{i64_bytes, u32_bytes}
 use Rattle.cck_cache_rules.specs.Age.{IsAbandoned}
 use Rattle.cck_cache_rules.specs.Checksum.{sums_of, words}
+use Rattle.cck_cache_rules.specs.FrontCoding.{front_coded}
 use Rattle.cck_cache_rules.specs.ObjectName.{is_inside, object_parts, tests_inside}
 use Rattle.cck_cache_rules.specs.PathStatus.{status_bytes}
 use Rattle.cck_cache_rules.specs.PathTest.{Absent, File, Plain, Real, test_bytes, with_path}
@@ -120,3 +121,7 @@ a_signed_value = refl
 a_compressed_value : compressed_value 258 (codes "z") ≡ codes "cck zstd 1\n" ++ (2 ∷ 1 ∷ 0 ∷ 0 ∷ 0 ∷ 0 ∷ 0 ∷ 0 ∷ codes "z")
 unfolding length_bytes
 a_compressed_value = refl
+
+-- nothing, a part and all of the text before is shared
+shared : front_coded [] (codes "absent /a" ∷ codes "absent /b" ∷ codes "file" ∷ codes "file" ∷ []) ≡ (0, codes "absent /a") ∷ (8, codes "b") ∷ (0, codes "file") ∷ (4, []) ∷ []
+shared = refl
