@@ -69,7 +69,7 @@ after_words first close line old one two new a b c =
 
 -- ---- lines
 
--- the line at this place includes a header
+-- this holds of the line at this place and a name
 abbrev pub LineAt : (List ℕ → List ℕ → Type 0) → List (List ℕ) → ℕ → List ℕ → Type 0
 LineAt P lines place name = P (get_or lines place []) name
 
