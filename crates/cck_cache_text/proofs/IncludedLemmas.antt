@@ -1,5 +1,5 @@
 -- The names that lines and arguments include.
-use Rattle.std.proofs.Common.{Bor, Contains, map, ◌+◌, ◌≡◌, ◌≢◌, ◌∙◌, ℕ, suc, ◌+◌, ◌<◌, ◌⊎◌, inl, inr, Bool, true, List, [], ◌∷◌, ◌++◌, Some, None, codes, drop, get_or, length, refl, slice_get, sym, ap, subst, take, arith}
+use Rattle.std.proofs.Common.{Bor, Contains, map, ◌+◌, ◌≡◌, ◌≢◌, ◌∙◌, ℕ, suc, ◌<◌, ◌⊎◌, inl, inr, Bool, true, List, [], ◌∷◌, ◌++◌, Some, None, codes, drop, get_or, length, refl, slice_get, sym, ap, subst, take, arith}
 use Rattle.std.specs.BTreeSet.{BTreeSet}
 use Rattle.std.specs.Global.{Vec}
 use Rattle.std.proofs.Math.Seq.{drop-append_seam, take-append_seam}
