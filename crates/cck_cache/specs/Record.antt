@@ -1,5 +1,5 @@
 -- what a recording records
-use Rattle.std.specs.Prelude.{◌≡◌, ◌++◌, ◌⊎◌, ℤ, pos, ◌*ℤ◌, ◌+ℤ◌, List, Bool, true, false, Option, Some, None, String, string_bytes, vec_items}
+use Rattle.std.specs.Prelude.{◌≡◌, ◌++◌, ◌⊎◌, ℤ, pos, ◌*ℤ◌, ◌+ℤ◌, List, Bool, true, false, not, Option, Some, None, String, string_bytes, vec_items}
 use Rattle.std.specs.Option.{option_map}
 use Rattle.std.specs.declared.alloc.Global.{Global}
 use Rattle.cck_cache_rules.specs.Shown.{ShowsBase}
@@ -9,7 +9,7 @@ use Rattle.cck_cache_files.specs.TextCopies.{IsCopiesVerdict}
 use Rattle.cck_cache.specs.Input.{IsCalm, IsInput, NoFault}
 use Rattle.cck_cache.specs.Naming.{IsNameIn}
 use Rattle.cck_cache_files.specs.Tested.{AreAskedTests, IsRefusedBySource}
-use Rattle.cck_cache.specs.Request.{IsKeyOver, IsRequest, key_over, request_words}
+use Rattle.cck_cache.specs.Request.{IsKeyOver, IsRequest, is_clang, key_over, request_words}
 use Rattle.cck_cache_files.specs.Unnamed.{AreUnnamedTests, IsRefusedByUnnamed}
 use Rattle.cck_cache.specs.declared.environment.Environment.{Environment}
 use Rattle.cck_cache.specs.declared.record.Added.{Added}
@@ -66,12 +66,16 @@ IsOneDay zone a b true = (x y : DateTime) × IsLocalTime zone a x × IsLocalTime
 IsOneDay zone a b false =
     HasNoLocalTime a ⊎ (HasNoLocalTime b ⊎ ((x y : DateTime) × IsLocalTime zone a x × IsLocalTime zone b y × ¬ (epoch_day x.date ≡ epoch_day y.date)))
 
+-- the compiler of a request renames system headers, as gcc does, and clang does not
+abbrev pub renames_headers : Request → Bool
+renames_headers request = not (is_clang (string_bytes request.compiler))
+
 -- These tests of paths must hold, by what the compiler printed of its directories and by states of paths, where a file or a link that changed at this
 -- time or later is in doubt.
 pub record HasPathTests (request : Request) (since : Moment) (printed text : Bytes) (made : List Test) : Type 0 where
   pub states : PathStates
   pub since_is : states.since ≡ since
-  pub tests_are : AreTestsOf states request.directory.now text (lists_of request.arguments.items) printed made
+  pub tests_are : AreTestsOf (renames_headers request) states request.directory.now text (lists_of request.arguments.items) printed made
 
 -- files of a text: the input, and files at the paths of the names of the text, none of which replaced another
 pub record AreFilesOf (request : Request) (text : Bytes) (files : FileMap) : Type 0 where
@@ -107,7 +111,7 @@ pub record AreGathered (request : Request) (since : Moment) (printed text : Byte
 pub record HasPathRefusal (request : Request) (since : Moment) (printed text : Bytes) (refusal : Refusal) : Type 0 where
   pub states : PathStates
   pub since_is : states.since ≡ since
-  pub refused : IsRefusedByPath states request.directory.now text (lists_of request.arguments.items) printed refusal
+  pub refused : IsRefusedByPath (renames_headers request) states request.directory.now text (lists_of request.arguments.items) printed refusal
 
 -- what a source asks for keeps a compilation from being recorded, by files that were gathered for the text
 pub record HasSourceRefusal (request : Request) (since : Moment) (printed text : Bytes) (refusal : Refusal) : Type 0 where

@@ -1,7 +1,7 @@
 -- requests as requests over snapshots
-use Rattle.std.specs.Prelude.{◌≡◌, ◌⊎◌, ℕ, Bool, ◌==◌, ◌||◌, nat_eq, List, [], ◌∷◌, ◌++◌, IsTrue, Option, Some, None, codes, string_bytes, if◌then◌else◌}
+use Rattle.std.specs.Prelude.{◌≡◌, ◌⊎◌, ℕ, Bool, ◌==◌, ◌||◌, nat_eq, List, [], ◌∷◌, ◌++◌, IsTrue, Option, Some, None, codes, flat_map, string_bytes, if◌then◌else◌}
 use Rattle.std.specs.Borrow.{Bor}
-use Rattle.std.specs.List.{after_first, before_first, ends_with}
+use Rattle.std.specs.List.{after_first, before_first, ends_with, slice_split}
 use Rattle.std.specs.Option.{option_map}
 use Rattle.cck_hasher.specs.Keys.{preprocessor_key_of}
 use Rattle.cck_hasher.specs.Opening.{IsPreprocessorKey}
@@ -62,6 +62,19 @@ abbrev pub is_plusplus : Bytes → Bool
 is_plusplus programs =
     ends_with nat_eq (proper_program programs) (codes "/cc1plus") || ends_with nat_eq (proper_program programs) (codes "/clang++")
 
+-- the compiler with these programs takes this input for one in C++
+abbrev pub compiles_plusplus : Bytes → Bytes → Bool
+compiles_plusplus programs input = is_plusplus programs || is_cplusplus input
+
+-- a colon and a program, and nothing for that of gcc for C++
+abbrev pub other_program : Bytes → Bytes
+other_program program = if ends_with nat_eq program (codes "/cc1plus") then [] else 58 ∷ program
+
+-- the programs that a compilation of an input runs: that of gcc for C++ only where the input is in C++
+abbrev pub programs_for : Bytes → Bytes → Bytes
+programs_for programs input =
+    if compiles_plusplus programs input then programs else after_first is_colon (flat_map other_program (slice_split is_colon programs))
+
 -- a compiler is clang: this program has its name
 abbrev pub is_clang : Bytes → Bool
 is_clang programs =
@@ -74,7 +87,7 @@ kind_of programs = if is_clang programs then Clang else Gcc
 abbrev pub language_of : Request → Language
 language_of request =
     if is_assembler request.input.now then AssemblerToPreprocess
-    else if is_plusplus (string_bytes request.compiler) || is_cplusplus request.input.now then Cxx else C
+    else if compiles_plusplus (string_bytes request.compiler) request.input.now then Cxx else C
 
 -- the compiler with these programs, whose version and assembler are part of their digest
 abbrev pub compiler_of : Bytes → External

@@ -195,7 +195,19 @@ fn is_set<R: Env + AllocGlobal>(rt: &R, name: &str) -> Result<bool> {
     }
 }
 
-/// Whether a variable is set, empty or not, with which each call of a compiler is passed on.
+// Whether the directories in which programs are looked for are not those of `PATH`: it is not set, so that a shell and a
+// compiler each have others; or it has a percent sign, after which a shell reads something else.
+fn has_other_path<R: Env + AllocGlobal>(rt: &R) -> Result<bool> {
+    match env::var(rt, SEARCHED[0]) {
+        Ok(path) => Ok(path.contains('%')),
+        Err(env::VarError::NotPresent) => Ok(true),
+        Err(env::VarError::NotUnicode) => Ok(false),
+        Err(env::VarError::OutOfMemory) => bail!("out of memory"),
+    }
+}
+
+/// Whether a variable is such that each call of a compiler is passed on: one of a list is set, even to nothing, or `PATH` is
+/// not set or has a percent sign.
 ///
 /// The only error is lack of memory.
 pub fn is_passed_on<R: Env + AllocGlobal>(rt: &R) -> Result<bool> {
@@ -204,7 +216,7 @@ pub fn is_passed_on<R: Env + AllocGlobal>(rt: &R) -> Result<bool> {
             return Ok(true);
         }
     }
-    Ok(false)
+    has_other_path(rt)
 }
 
 // The value of a variable, which is empty if the variable is not set. `None` where it is not UTF-8.

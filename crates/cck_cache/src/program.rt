@@ -13,7 +13,7 @@ use crate::outputs::write_outputs;
 use crate::places::are_free;
 use crate::programs::{Named, programs_of};
 use crate::record::{Outcome, record};
-use crate::request::{is_clang, is_foreign, request_key};
+use crate::request::{is_clang, is_foreign, programs_for, request_key};
 use crate::seal::seal;
 use crate::store::store_in;
 use crate::unpack::{Taken, unpack};
@@ -492,6 +492,7 @@ fn wanted_of<'a, R: Files + AllocGlobal>(
     if !are_free(rt, &paths) {
         return Ok(Asked::PassedOn(Passed::Output));
     }
+    let programs = programs_for(alloc, programs.as_str(), paths.input.as_bytes())?;
     let request = request_of(alloc, call, programs, &asked, &paths)?;
     Ok(Asked::Cached(Wanted {
         asked,

@@ -2,7 +2,7 @@
 ghost use Rattle.std.specs.Prelude.{◌≡◌, ◌++◌, ◌||◌, ◌↔◌, IfOk, IfSome, IsTrue, List, MatchOption, OnOk, Some};
 ghost use Rattle.std.specs.Option.{option_map, option_or};
 ghost use Rattle.cck_cache.specs.Input.{IsCalm};
-ghost use Rattle.cck_cache.specs.Record.{HasNoLocalTime, Holds, IsEntryOf, IsEntryVerdict, IsInputVerdict, IsJudgedByReading, IsJudgedByRules, IsKept, IsLocalTime, IsOneDay, IsOutcome, IsOutcomeOver, IsRefusedByBase, IsSeen, IsSeenBySome, ObjectShowsBase, gathered_tests, recorded_fields};
+ghost use Rattle.cck_cache.specs.Record.{HasNoLocalTime, Holds, IsEntryOf, IsEntryVerdict, IsInputVerdict, IsJudgedByReading, IsJudgedByRules, IsKept, IsLocalTime, IsOneDay, IsOutcome, IsOutcomeOver, IsRefusedByBase, IsSeen, IsSeenBySome, ObjectShowsBase, gathered_tests, recorded_fields, renames_headers};
 ghost use Rattle.cck_cache_files.specs.PathStatuses.{AreStatusesBefore};
 ghost use Rattle.cck_cache_rules.specs.PathStatus.{Status, statuses_of};
 ghost use Rattle.cck_cache_rules.specs.Files.{entry_fields};
@@ -32,7 +32,7 @@ use cck_cache_options::{Compilation, Made};
 use cck_cache_rules::{
     EntryFile, Known, ObjectFile, PathStatus, PathTest, Refusal, bases_of, refusal_of, shows_base,
 };
-use cck_cache_text::{assembles_alone, opens_named_alone};
+use cck_cache_text::{MarkedText, assembles_alone, opens_named_alone};
 use cck_digest::UtilError;
 use cck_files::MapFiles;
 use cck_path::Timestamp;
@@ -146,7 +146,8 @@ fn gathered_of(
 // Reads the input and the files that a text names, and lists the tests of paths that must hold; or finds
 // why the compilation is not recorded.
 fn see_by<R: Files + AllocGlobal>(rt: &R, preprocessed: &Preprocessed<'_>) -> Result<Seen>
-    ensures { IfOk result (IsSeen preprocessed.now.request.now preprocessed.now.since
+    ensures { preprocessed.now.renames ≡ renames_headers preprocessed.now.request.now
+        → IfOk result (IsSeen preprocessed.now.request.now preprocessed.now.since
         preprocessed.now.printed.now preprocessed.now.text.now) }
 {
     let (request, text) = (preprocessed.request, preprocessed.text);
@@ -157,7 +158,7 @@ fn see_by<R: Files + AllocGlobal>(rt: &R, preprocessed: &Preprocessed<'_>) -> Re
         Absence::Tests(tests) => tests,
     };
     let cwd = request.directory.as_bytes();
-    let is_doubtful = add_named_files(rt, &mut files, &mut states, cwd, text)?;
+    let is_doubtful = add_named_files(rt, &mut files, &mut states, cwd, text.bytes())?;
     let mut asked = PathStates::new(rt, preprocessed.since);
     let tested = tested_by(rt, &mut files, &mut asked, preprocessed)?;
     let asked_tests = match tested {
@@ -189,7 +190,7 @@ fn see<R: Files + AllocGlobal>(
     rt: &R,
     request: &Request<'_>,
     compilation: &Compilation<'_>,
-    text: &[u8],
+    text: &MarkedText<'_>,
 ) -> Result<Seen>
     ensures { IfOk result (IsSeenBySome request.now compilation.now.since text.now) }
 {
@@ -244,7 +245,11 @@ fn read_rules<R: Files + AllocGlobal>(rt: &R, made: &Made<'_>) -> io::Result<Rea
 }
 
 // Whether the compiler opened no file but those of a text, by its dependency file. `false` without one.
-fn opens_text_alone(alloc: Global, text: &[u8], rule: Option<&[u8]>) -> Result<bool, AllocError>
+fn opens_text_alone(
+    alloc: Global,
+    text: &MarkedText<'_>,
+    rule: Option<&[u8]>,
+) -> Result<bool, AllocError>
     ensures { IfOk result (λ alone. IsTrue alone
         ↔ Holds (IsOpenedRule text.now) (option_map (λ r. r.now) rule.entry)) }
 {
@@ -258,7 +263,7 @@ fn opens_text_alone(alloc: Global, text: &[u8], rule: Option<&[u8]>) -> Result<b
 fn refusal_by_rules(
     alloc: Global,
     input: &str,
-    text: &[u8],
+    text: &MarkedText<'_>,
     rules: &ReadRules,
 ) -> Result<Option<Refusal>, AllocError>
     ensures { IfOk result (IsJudgedByRules input.now text.now rules.now) }
@@ -278,7 +283,7 @@ fn refusal_by_reading<R: Files + AllocGlobal>(
     rt: &R,
     request: &Request<'_>,
     made: Option<&Made<'_>>,
-    text: &[u8],
+    text: &MarkedText<'_>,
 ) -> Result<Option<Refusal>>
     ensures { IfOk result (IsJudgedByReading request.now text.now (option_map (λ m. m.now) made.entry)) }
 {
@@ -635,10 +640,11 @@ pub fn record<R: Files + AllocGlobal>(
 ) -> Result<Outcome>
     ensures { IfOk result (IsOutcome environment.entry.now request.now compilation.now text.now) }
 {
-    if let Some(refusal) = refusal_by_reading(rt, request, compilation.made.as_ref(), text)? {
+    let marked = MarkedText::new(rt.alloc(), text)?;
+    if let Some(refusal) = refusal_by_reading(rt, request, compilation.made.as_ref(), &marked)? {
         return Ok(Outcome::Refused(refusal));
     }
-    match see(rt, request, compilation, text)? {
+    match see(rt, request, compilation, &marked)? {
         Seen::Refused(refusal) => Ok(Outcome::Refused(refusal)),
         Seen::Files(gathered) => {
             record_over(rt, environment, store, request, compilation, text, gathered)

@@ -1,10 +1,10 @@
 //! The compilation of a request.
-ghost use Rattle.std.specs.Prelude.{◌≡◌, ◌&&◌, ◌++◌, ◌∷◌, [], Bool, IfOk, OnOk, string_bytes};
-ghost use Rattle.std.specs.List.{after_first, before_first};
+ghost use Rattle.std.specs.Prelude.{◌≡◌, ◌&&◌, ◌++◌, ◌∷◌, [], Bool, IfOk, OnOk, flat_map, string_bytes};
+ghost use Rattle.std.specs.List.{after_first, before_first, slice_split};
 ghost use Rattle.std.specs.Option.{option_map};
 ghost use Rattle.cck_cache_rules.specs.Base.{word_lists};
 ghost use Rattle.cck_cache.specs.Input.{IsInput};
-ghost use Rattle.cck_cache.specs.Request.{AreKeyed, HasPreprocessorKey, IsCompilerDigest, IsHasher, IsRequest, given_arguments, is_clang, is_colon, is_plusplus, kind_of, language_of, proper_program, request_words};
+ghost use Rattle.cck_cache.specs.Request.{AreKeyed, HasPreprocessorKey, IsCompilerDigest, IsHasher, IsRequest, given_arguments, compiles_plusplus, is_clang, is_colon, is_plusplus, kind_of, language_of, other_program, programs_for, proper_program, request_words};
 ghost use Rattle.cck_cache_files.specs.declared.request.Request as words;
 ghost use Rattle.cck_cache_options.specs.Call.{call_of};
 ghost use Rattle.cck_compiler.specs.Seen.{arguments_of};
@@ -117,6 +117,55 @@ fn is_plusplus(programs: &str) -> bool
     program.ends_with(b"/cc1plus") || program.ends_with(b"/clang++")
 }
 
+// The end of the path of the program of gcc that compiles C++.
+const PLUSPLUS: &[u8] = b"/cc1plus";
+
+// Whether the compiler with these programs takes this input for one in C++.
+fn compiles_plusplus(programs: &str, input: &[u8]) -> bool
+    ensures { result ≡ compiles_plusplus programs.now input.now }
+{
+    is_plusplus(programs) || is_cplusplus(input)
+}
+
+// Appends a colon and a program, unless it is that of gcc for C++.
+fn push_other(others: &mut String, program: &str) -> Result<(), AllocError>
+    ensures { OnOk result
+        (string_bytes others.new ≡ string_bytes others.old ++ other_program program.now) }
+{
+    if program.as_bytes().ends_with(PLUSPLUS) {
+        return Ok(());
+    }
+    others.push_str(":")?;
+    others.push_str(program)?;
+    Ok(())
+}
+
+// A colon and a program for each of these, without that of gcc for C++.
+fn other_programs(alloc: Global, programs: &str) -> Result<String, AllocError>
+    ensures { IfOk result (λ others.
+        string_bytes others ≡ flat_map other_program (slice_split is_colon programs.now)) }
+{
+    let mut others = String::new(alloc);
+    for program in programs.split(':') {
+        push_other(&mut others, program)?;
+    }
+    Ok(others)
+}
+
+/// The programs that a compilation of this input runs: those of its compiler, with colons between them, and that of gcc for
+/// C++ only where the input is in C++.
+///
+/// The error is lack of memory.
+pub fn programs_for(alloc: Global, programs: &str, input: &[u8]) -> Result<String, AllocError>
+    ensures { IfOk result (λ text. string_bytes text ≡ programs_for programs.now input.now) }
+{
+    if compiles_plusplus(programs, input) {
+        return String::from_str(alloc, programs);
+    }
+    let others = other_programs(alloc, programs)?;
+    String::from_str(alloc, after_colon(others.as_str()))
+}
+
 /// Whether an option of a call says that the input is in C, and the compiler with these programs is one for C++: then
 /// another program compiles.
 pub fn is_foreign(asked: &Call<'_>, programs: &str) -> bool
@@ -151,7 +200,7 @@ fn language_of(request: &Request<'_>) -> Language
     let input = request.input.as_bytes();
     if is_assembler(input) {
         Language::AssemblerToPreprocess
-    } else if is_plusplus(request.compiler.as_str()) || is_cplusplus(input) {
+    } else if compiles_plusplus(request.compiler.as_str(), input) {
         Language::Cxx
     } else {
         Language::C

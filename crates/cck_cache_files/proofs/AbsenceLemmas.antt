@@ -1,10 +1,12 @@
 -- the tests of paths that must hold for a recorded key
-use Rattle.std.proofs.Common.{◌≡◌, ◌∙◌, ◌<◌, ◌≤◌, ◌+◌, ℕ, List, [], ◌∷◌, ◌++◌, IsTrue, get_or, length, map, take, sym, ap, ap₂, append_assoc, subst, arith}
+use Rattle.std.proofs.Common.{◌≡◌, ◌∙◌, ◌<◌, ◌≤◌, ◌+◌, ◌⊎◌, ℕ, Bool, true, false, List, [], ◌∷◌, ◌++◌, Contains, IsTrue, get_or, length, map, take, sym, ap, ap₂, append_assoc, subst, arith}
 use Rattle.std.specs.BTreeSet.{BTreeSet}
 use Rattle.std.specs.Global.{Vec}
 use Rattle.std.proofs.lemmas.List.{get_or_default, length-map, map-append, take_all, take_more}
-use Rattle.cck_cache_files.specs.Absence.{AreLeft}
+use Rattle.cck_cache_files.specs.Absence.{AreLeft, IsLinked}
 use Rattle.cck_cache_text.specs.Left.{IsLeft}
+use Rattle.cck_cache_text.specs.Names.{is_named}
+use Rattle.cck_cache_text.specs.SearchList.{SearchFields}
 use Rattle.cck_cache_rules.specs.PathTest.{Test, test_of, tests_of}
 use Rattle.cck_cache_text.specs.Sets.{IsSetOf, has_key}
 use Rattle.cck_cache_rules.specs.declared.path_test.PathTest.{PathTest}
@@ -31,6 +33,16 @@ all_tested make first tests paths n all so_far = so_far ∙ ap (λ (ps : List By
 -- tests after others
 pub tests_joined : (all first rest : List PathTest) (before : List Test) → all ≡ first ++ rest → tests_of first ≡ before → tests_of all ≡ before ++ tests_of rest
 tests_joined all first rest before is so_far = ap tests_of is ∙ (map-append test_of first rest ∙ ap (λ (tests : List Test). tests ++ tests_of rest) so_far)
+
+-- the names to which links are tested, by a compiler that renames no header
+pub all_linked : (renames : Bool) (search : SearchFields) (marks : List Mark) (text name : Bytes) → renames ≡ false
+    → (IsLinked renames search marks text name → IsTrue (is_named marks name) ⊎ (Contains search.directories name ⊎ Contains search.duplicates name))
+    × (IsTrue (is_named marks name) ⊎ (Contains search.directories name ⊎ Contains search.duplicates name) → IsLinked renames search marks text name)
+all_linked true search marks text name e = absurd (true_false e)
+  where
+    true_false : true ≡ false → ⊥
+    true_false e = cc
+all_linked false search marks text name e = (λ is. is, λ is. is)
 
 -- ---- the directories that names leave
 

@@ -1,9 +1,13 @@
 //! The tests of paths that must hold for a recorded key.
-ghost use Rattle.std.specs.Prelude.{◌≡◌, ◌++◌, IfOk, IsOkUnless, OnOk, map};
+ghost use Rattle.std.specs.Prelude.{◌≡◌, ◌++◌, Contains, IfOk, IsOkUnless, List, OnOk, map, true};
 ghost use Rattle.std.specs.Option.{option_map};
-ghost use Rattle.cck_cache_files.specs.Absence.{AreTestsAfterIfKnown, IsAbsence};
+ghost use Rattle.cck_cache_files.specs.Absence.{AreTestsAfterIfKnown, IsAbsence, IsLinked};
 ghost use Rattle.cck_cache_rules.specs.PathTest.{Directory, tests_of};
 ghost use Rattle.cck_cache_files.specs.PathStates.{KeepsStates};
+ghost use Rattle.cck_cache_text.specs.SearchList.{search_fields};
+ghost use Rattle.cck_cache_text.specs.Sets.{Adds, IsSetOf};
+ghost use Rattle.cck_include.specs.Marks as spec;
+ghost use Rattle.cck_include.specs.Marks.{Marks};
 ghost use Rattle.cck_path.specs.Bytes.{lists_of};
 
 use crate::preprocessed::Preprocessed;
@@ -54,7 +58,7 @@ pub fn all_tests(tests: Vec<PathTest>, others: Vec<PathTest>) -> Result<Vec<Path
 
 /// Judges the paths that decide where the headers of a text were found: the directories that the
 /// compiler searches, the paths at which a header would have been found earlier, the directories
-/// that a name leaves by `..`, and the links on the way to system headers.
+/// that a name leaves by `..`, and the links on the way to system headers or, by clang, to all files and directories.
 ///
 /// The only error is [`UtilError::Memory`]. The states that were kept are kept, after it too.
 pub fn absence_of<R: Files + AllocGlobal>(
@@ -62,8 +66,8 @@ pub fn absence_of<R: Files + AllocGlobal>(
     states: &mut PathStates,
     preprocessed: &Preprocessed<'_>,
 ) -> Result<Absence, UtilError>
-    ensures absence { IfOk result (IsAbsence states.new preprocessed.now.request.now.directory.now
-        preprocessed.now.text.now (lists_of preprocessed.now.request.now.arguments.items)
+    ensures absence { IfOk result (IsAbsence preprocessed.now.renames states.new
+        preprocessed.now.request.now.directory.now preprocessed.now.text.now (lists_of preprocessed.now.request.now.arguments.items)
         preprocessed.now.printed.now) }
     ensures kept { KeepsStates states.old states.new }
     ensures errors { IsOkUnless result UtilError.Memory }
@@ -83,21 +87,57 @@ pub fn absence_of<R: Files + AllocGlobal>(
     let Some(searched) = searched_tests(rt, directory.as_bytes(), &search)? else {
         return Ok(Absence::Refused(Refusal::EarlierPath));
     };
-    match tests_after(rt, preprocessed, all_tests(searched, earlier)?)? {
+    match tests_after(rt, preprocessed, &search, all_tests(searched, earlier)?)? {
         None => Ok(Absence::Refused(Refusal::NamedFile)),
         Some(tests) => Ok(Absence::Tests(tests)),
     }
 }
 
+// Adds copies of these names.
+fn add_names(
+    alloc: Global,
+    names: &mut BTreeSet<Vec<u8>>,
+    others: &[Vec<u8>],
+) -> Result<(), AllocError>
+    ensures { OnOk result (Adds (Contains (lists_of others.now)) names.old names.new) }
+{
+    for name in others {
+        names.insert(name.to_vec(alloc)?)?;
+    }
+    Ok(())
+}
+
+// The names of what is named after the links on the way to it: the system headers; or, by a compiler that renames no header,
+// all files of the text and the directories that it searches. clang knows a directory by its inode, and calls it by the name
+// by which it came first.
+fn linked_names(
+    alloc: Global,
+    preprocessed: &Preprocessed<'_>,
+    search: &SearchList,
+) -> Result<BTreeSet<Vec<u8>>, AllocError>
+    ensures { IfOk result (λ names. (marks : List spec.Mark) → Marks true preprocessed.now.text.now marks
+        → IsSetOf (IsLinked preprocessed.now.renames (search_fields search.now) marks preprocessed.now.text.now) names) }
+{
+    if preprocessed.renames {
+        return system_names(alloc, preprocessed.text);
+    }
+    let mut names = preprocessed.text.names().clone()?;
+    add_names(alloc, &mut names, &search.directories)?;
+    add_names(alloc, &mut names, &search.duplicates)?;
+    Ok(names)
+}
+
 // These tests, and after them those of the directories that a name of the text leaves by `..` and of the links on
-// the way to system headers. `None` where it is not known where a system header is.
+// the way to what is named after them. `None` where it is not known where one of these leads.
 fn tests_after<R: Files + AllocGlobal>(
     rt: &R,
     preprocessed: &Preprocessed<'_>,
+    search: &SearchList,
     first: Vec<PathTest>,
 ) -> Result<Option<Vec<PathTest>>, UtilError>
-    ensures tests { IfOk result (λ tests. AreTestsAfterIfKnown preprocessed.now.request.now.directory.now
-        preprocessed.now.text.now (tests_of first.items) (option_map (λ all. tests_of all.items) tests)) }
+    ensures tests { IfOk result (λ tests. AreTestsAfterIfKnown preprocessed.now.renames (search_fields search.now)
+        preprocessed.now.request.now.directory.now preprocessed.now.text.now (tests_of first.items)
+        (option_map (λ all. tests_of all.items) tests)) }
     ensures errors { IsOkUnless result UtilError.Memory }
 {
     let alloc = rt.alloc();
@@ -105,8 +145,8 @@ fn tests_after<R: Files + AllocGlobal>(
     let mut tests = first;
     let left = left_directories(alloc, directory, preprocessed.text)?;
     add_directories(alloc, &mut tests, &left)?;
-    let systems = system_names(alloc, preprocessed.text)?;
-    let Some(links) = link_tests(rt, directory, &systems, preprocessed.renames)? else {
+    let linked = linked_names(alloc, preprocessed, search)?;
+    let Some(links) = link_tests(rt, directory, &linked, preprocessed.renames)? else {
         return Ok(None);
     };
     let LinkTests { plain, real } = links;

@@ -15,7 +15,7 @@ ghost use Rattle.cck_include.specs.Marks.{Marks};
 
 use crate::read_once::{may_be_read_once, without_mark};
 use crate::times::{changed, changed_before, modified};
-use cck_cache_text::file_names;
+use cck_cache_text::MarkedText;
 use cck_digest::{FileError, UtilError};
 use cck_files::{Files as FilesInMemory, MapFiles};
 use cck_path::{FileKind, Metadata, Timestamp, join_path, normalize_path};
@@ -144,11 +144,15 @@ fn known_files_of(
 }
 
 // The names of the files of a text: those that it names, and the input.
-fn names_of(alloc: Global, input: &[u8], text: &[u8]) -> Result<BTreeSet<Vec<u8>>, AllocError>
+fn names_of(
+    alloc: Global,
+    input: &[u8],
+    text: &MarkedText<'_>,
+) -> Result<BTreeSet<Vec<u8>>, AllocError>
     ensures { IfOk result (λ names. (marks : List spec.Mark) → Marks true text.now marks
         → IsSetOf (λ name. (name ≡ input.now) ⊎ IsTrue (is_named marks name)) names) }
 {
-    let mut names = file_names(alloc, text)?;
+    let mut names = text.names().clone()?;
     names.insert(input.to_vec(alloc)?)?;
     Ok(names)
 }
@@ -162,7 +166,7 @@ pub fn known_files(
     files: &mut MapFiles,
     directory: &[u8],
     input: &[u8],
-    text: &[u8],
+    text: &MarkedText<'_>,
 ) -> Result<Vec<KnownFile>, UtilError>
     ensures keeps { IfOk result (λ _. Keeps (λ files. files.files) fault_count IsQuiet files.old files.new) }
     ensures known { IfOk result (λ known. (marks : List spec.Mark) → Marks true text.now marks
@@ -200,7 +204,7 @@ pub fn compared_paths(
     alloc: Global,
     directory: &[u8],
     input: &[u8],
-    text: &[u8],
+    text: &MarkedText<'_>,
 ) -> Result<BTreeSet<Vec<u8>>, UtilError>
     ensures paths { IfOk result (λ paths. (marks : List spec.Mark) → Marks true text.now marks
         → IsSetOf (IsPathOfName (λ name. (name ≡ input.now) ⊎ IsTrue (is_named marks name)) directory.now) paths) }

@@ -1,5 +1,6 @@
 //! What a compiler made of an input before it compiled.
 use crate::request::Request;
+use cck_cache_text::MarkedText;
 use cck_path::Timestamp;
 
 /// What a compiler made of the input of a request before it compiled. By it the paths are judged at which
@@ -11,7 +12,7 @@ pub struct Preprocessed<'a> {
     /// The time at which the look-up ended, by the clock of the store's file system.
     pub since: Timestamp,
     /// The preprocessed text.
-    pub text: &'a [u8],
+    pub text: &'a MarkedText<'a>,
     /// What the compiler printed of the directories that it searches for headers.
     pub printed: &'a [u8],
     /// Whether the compiler names a system header by its real path where that is shorter, as gcc does.

@@ -243,6 +243,15 @@ fn is_executable<R: Files>(rt: &R, found: &Metadata) -> Option<bool> {
     may_execute(mode, user == 0, user == found.uid())
 }
 
+// Whether a compiler looks for a program at the next place after this error. After another one, as where links go round in
+// a circle, it ends, and a shell goes on.
+fn is_passed_over(kind: ErrorKind) -> bool {
+    matches!(
+        kind,
+        ErrorKind::NotFound | ErrorKind::NotADirectory | ErrorKind::PermissionDenied
+    )
+}
+
 // Looks for a program of this name as a shell does.
 fn locate<R: Files + AllocGlobal>(
     rt: &R,
@@ -251,8 +260,10 @@ fn locate<R: Files + AllocGlobal>(
     name: &str,
 ) -> Result<Located, AllocError> {
     for place in places_of(rt.alloc(), directory, path, name)? {
-        let Ok(found) = fs::metadata(rt, place.as_str()) else {
-            continue;
+        let found = match fs::metadata(rt, place.as_str()) {
+            Ok(found) => found,
+            Err(error) if is_passed_over(error.kind()) => continue,
+            Err(_) => return Ok(Located::Doubtful),
         };
         if !found.is_file() {
             continue;

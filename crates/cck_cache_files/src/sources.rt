@@ -11,7 +11,7 @@ ghost use Rattle.cck_include.specs.Marks as spec;
 ghost use Rattle.cck_include.specs.Marks.{Marks};
 
 use cck_cache_text::{
-    SearchList, add_tested_paths, file_names, has_dependency_pragma, has_doubtful_lines,
+    MarkedText, SearchList, add_tested_paths, has_dependency_pragma, has_doubtful_lines,
     header_tests, unspliced,
 };
 use cck_digest::{FileError, UtilError};
@@ -142,7 +142,7 @@ pub fn asked_by(
     alloc: Global,
     files: &mut MapFiles,
     directory: &[u8],
-    text: &[u8],
+    text: &MarkedText<'_>,
     search: &SearchList,
 ) -> Result<Asked, UtilError>
     ensures keeps { IfOk result (λ _. Keeps (λ files. files.files) fault_count IsQuiet files.old files.new) }
@@ -150,7 +150,6 @@ pub fn asked_by(
         → AreAsked files.old.files directory.now (λ name. IsTrue (is_named marks name))
         (search_fields search.now).directories asked) }
 {
-    let names = file_names(alloc, text)?;
-    let asked = asked_of(alloc, files, directory, &names, search)?;
+    let asked = asked_of(alloc, files, directory, text.names(), search)?;
     Ok(asked)
 }

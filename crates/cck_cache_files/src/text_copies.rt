@@ -33,6 +33,6 @@ pub fn may_have_copies(
     let (request, text) = (preprocessed.request, preprocessed.text);
     let directory = request.directory.as_bytes();
     let paths = compared_paths(alloc, directory, request.input.as_bytes(), text)?;
-    let found = has_copies(alloc, files, &paths, may_import(text))?;
+    let found = has_copies(alloc, files, &paths, may_import(text.bytes()))?;
     Ok(found)
 }

@@ -309,7 +309,7 @@ fn compared_files(
         preprocessed.now.text.now (tests_of asked.now) (option_map (λ all. all.items) known)) }
 {
     let (request, text) = (preprocessed.request, preprocessed.text);
-    if may_import(text) && !want_no_file(asked) {
+    if may_import(text.bytes()) && !want_no_file(asked) {
         return Ok(None);
     }
     let directory = request.directory.as_bytes();
@@ -326,7 +326,7 @@ fn paths_to_compare(
     ensures { IsOkUnless result UtilError.Memory }
 {
     let (request, text) = (preprocessed.request, preprocessed.text);
-    if may_import(text) {
+    if may_import(text.bytes()) {
         return Ok(None);
     }
     let directory = request.directory.as_bytes();

@@ -1,10 +1,10 @@
 -- The names that lines and arguments include.
-use Rattle.std.proofs.Common.{Bor, Contains, map, ◌+◌, ◌≡◌, ◌≢◌, ◌∙◌, ℕ, suc, ◌<◌, ◌⊎◌, inl, inr, Bool, true, List, [], ◌∷◌, ◌++◌, Some, None, codes, drop, get_or, length, refl, slice_get, sym, ap, subst, take, arith}
+use Rattle.std.proofs.Common.{Bor, Contains, map, ◌+◌, ◌≡◌, ◌≢◌, ◌∙◌, ℕ, suc, ◌<◌, ◌⊎◌, inl, inr, Bool, true, false, List, [], ◌∷◌, ◌++◌, Some, None, codes, drop, get_or, length, refl, slice_get, sym, ap, subst, take, arith}
 use Rattle.std.specs.BTreeSet.{BTreeSet}
 use Rattle.std.specs.Global.{Vec}
 use Rattle.std.proofs.Math.Seq.{drop-append_seam, take-append_seam}
 use Rattle.std.proofs.lemmas.List.{append_cancel_left, append-nil, get_or_default, get_or-map, length-append, length-map, take-append-drop}
-use Rattle.cck_cache_text.specs.Included.{IncludesHeader, Includes, IsAfter, IsClosedBy, IsGiven, IsGivenAt, IsGivenTo, IsHeader, IsIncludedBy}
+use Rattle.cck_cache_text.specs.Included.{IncludesHeader, Includes, IsAfter, IsClosedBy, IsGiven, IsGivenAt, IsGivenTo, IsHeader, IsIncludeWord, IsIncludedBy, may_include}
 use Rattle.cck_cache_text.specs.SearchList.{text_lines}
 use Rattle.cck_cache_text.specs.Sets.{Adds, IsSetOf}
 use Rattle.cck_cache_text.proofs.LeftLemmas.{no_key}
@@ -66,6 +66,21 @@ after_words first close line old one two new a b c =
     from q (word, inl is, h) = inl (inl (subst (λ (w : List ℕ). IsAfter (w ++ first ∷ []) (close ∷ []) line q) is h))
     from q (word, inr (inl is), h) = inl (inr (subst (λ (w : List ℕ). IsAfter (w ++ first ∷ []) (close ∷ []) line q) is h))
     from q (word, inr (inr is), h) = inr (subst (λ (w : List ℕ). IsAfter (w ++ first ∷ []) (close ∷ []) line q) is h)
+
+-- a line that begins otherwise
+pub no_words : (first close : ℕ) (line : List ℕ) (old : BTreeSet (Vec ℕ)) → may_include line ≡ false → Adds (Includes first close line) old old
+no_words first close line old otherwise = adds_nothing (Includes first close line) old none
+  where
+    begins : (word rest : List ℕ) → line ≡ (word ++ first ∷ []) ++ rest → IsIncludeWord word → may_include line ≡ true
+    begins word rest is (inl e) = ap may_include (is ∙ ap (λ w. (w ++ first ∷ []) ++ rest) e)
+    begins word rest is (inr (inl e)) = ap may_include (is ∙ ap (λ w. (w ++ first ∷ []) ++ rest) e)
+    begins word rest is (inr (inr e)) = ap may_include (is ∙ ap (λ w. (w ++ first ∷ []) ++ rest) e)
+
+    false_true : false ≡ true → ⊥
+    false_true e = cc
+
+    none : (q : List ℕ) → Includes first close line q → ⊥
+    none q (word, known, after) = false_true (sym otherwise ∙ begins word after.0 after.1 known)
 
 -- ---- lines
 

@@ -3,7 +3,7 @@ use Rattle.std.proofs.Common.{◌≡◌, ℕ, zero, suc, ◌+◌, ◌<◌, ◌�
 use Rattle.std.specs.BTreeSet.{BTreeSet, contains_by, insert_key}
 use Rattle.std.specs.Cmp.Lexicographic.{slice_cmp}
 use Rattle.std.specs.Global.{Vec}
-use Rattle.std.specs.List.{list_any}
+use Rattle.std.specs.List.{AllZip, list_any}
 use Rattle.std.specs.Ordering.{match_ordering, is_eq, nat_cmp}
 use Rattle.std.specs.Str.{bytes_eq}
 use Rattle.std.specs.declared.cmp.Ordering.{Ordering}
@@ -55,6 +55,17 @@ module _ (q : List ℕ) (k : Vec ℕ) where
 -- a key that is inserted
 pub has-insert : (old new : BTreeSet (Vec ℕ)) (k : Vec ℕ) → new.keys ≡ insert_key (λ a b. slice_cmp nat_cmp a.items b.items) old.keys k → (q : List ℕ) → has_key new q ≡ (bytes_eq q k.items || has_key old q)
 has-insert old new k is q = ap (list_any (λ y. bytes_eq q y.items)) is ∙ inserted q k old.keys
+
+module _ (C : Vec ℕ → Vec ℕ → Type 0) (same : (v w : Vec ℕ) → C v w → w.items ≡ v.items) where
+  copied : (q : List ℕ) (olds news : List (Vec ℕ)) → AllZip C olds news → list_any (λ y. bytes_eq q y.items) news ≡ list_any (λ y. bytes_eq q y.items) olds
+  copied q [] [] are = refl
+  copied q [] (new ∷ news) are = absurd are
+  copied q (old ∷ olds) [] are = absurd are
+  copied q (old ∷ olds) (new ∷ news) are = ap₂ (λ a b. a || b) (ap (bytes_eq q) (same old new are.0)) (copied q olds news are.1)
+
+  -- a set of copies of the keys
+  pub has-copy : (old new : BTreeSet (Vec ℕ)) → AllZip C old.keys new.keys → (q : List ℕ) → has_key new q ≡ has_key old q
+  has-copy old new are q = copied q old.keys new.keys are
 
 -- a set has the bytes of its keys
 pub key_at : (ks : List (Vec ℕ)) (q : List ℕ) → IsTrue (list_any (λ k. bytes_eq q k.items) ks) → (i : ℕ) × (i < length ks) × (get_or (map (λ k. k.items) ks) i [] ≡ q)

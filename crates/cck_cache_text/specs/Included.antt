@@ -1,5 +1,6 @@
 -- the headers that a text includes, by the lines that gcc writes of them with `-dI`, and that arguments include
-use Rattle.std.specs.Prelude.{◌≡◌, ℕ, ◌+◌, ◌<◌, ◌⊎◌, Bool, true, false, List, [], ◌∷◌, ◌++◌, Contains, Some, codes, length, slice_get}
+use Rattle.std.specs.Prelude.{◌≡◌, ℕ, ◌+◌, ◌<◌, ◌⊎◌, Bool, true, false, List, [], ◌∷◌, ◌++◌, Contains, Some, codes, length, nat_eq, slice_get}
+use Rattle.std.specs.List.{starts_with}
 use Rattle.cck_cache_text.specs.SearchList.{text_lines}
 use Rattle.cck_cache_text.specs.Sets.{Adds, IsSetOf}
 use Rattle.cck_cache_text.specs.declared.included.Included.{Included}
@@ -15,6 +16,10 @@ IsClosedBy close text name = (rest : List ℕ) × (text ≡ name ++ (close ++ re
 -- a line begins with this, and then a name follows
 abbrev pub IsAfter : List ℕ → List ℕ → List ℕ → List ℕ → Type 0
 IsAfter front close line name = (rest : List ℕ) × (line ≡ front ++ rest) × IsClosedBy close rest name
+
+-- a line begins as one that includes a header
+abbrev pub may_include : List ℕ → Bool
+may_include line = starts_with nat_eq line (codes "#i")
 
 -- a line includes the header of this name, between these two bytes
 abbrev pub Includes : ℕ → ℕ → List ℕ → List ℕ → Type 0

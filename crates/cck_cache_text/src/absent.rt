@@ -9,7 +9,7 @@ ghost use Rattle.cck_cache_text.specs.SearchList.{search_fields};
 ghost use Rattle.cck_cache_text.specs.Sets.{Adds, IsSetOf, has_key};
 
 use crate::included::included_in;
-use crate::names::{Named, names_in};
+use crate::names::{MarkedText, Named};
 use crate::search_list::SearchList;
 use std::alloc::{AllocError, Global};
 use std::collections::BTreeSet;
@@ -223,7 +223,7 @@ fn set_of(alloc: Global, all: &[Vec<u8>]) -> Result<BTreeSet<Vec<u8>>, AllocErro
 /// Source: "Search Path" of the manual of GCC's preprocessor, and gcc 12.
 pub fn absent_names(
     alloc: Global,
-    text: &[u8],
+    text: &MarkedText<'_>,
     arguments: &[Vec<u8>],
     search: &SearchList,
 ) -> Result<Option<BTreeSet<Vec<u8>>>, AllocError>
@@ -231,12 +231,12 @@ pub fn absent_names(
         → AreAbsentNames marks text.now (map (λ a. a.items) arguments.now)
         (search_fields search.now) found) }
 {
-    let named = names_in(alloc, text)?;
-    let included = included_in(alloc, text, arguments)?;
+    let named = text.named();
+    let included = included_in(alloc, text.bytes(), arguments)?;
     let mut paths = set_of(alloc, &search.missing)?;
     let listed = &search.directories;
-    add_in(alloc, &mut paths, &named, listed, b"stdc-predef.h")?;
-    if add_names(alloc, &mut paths, &named, &included.quoted, listed)? {
+    add_in(alloc, &mut paths, named, listed, b"stdc-predef.h")?;
+    if add_names(alloc, &mut paths, named, &included.quoted, listed)? {
         Ok(Some(paths))
     } else {
         Ok(None)

@@ -1,6 +1,6 @@
 //! The headers that a text and the arguments of a call include.
-ghost use Rattle.std.specs.Prelude.{◌<◌, IfOk, OnOk, length, map, true, false};
-ghost use Rattle.cck_cache_text.specs.Included.{AddsLines, AreIncluded, IncludesHeader, IsAfter, IsClosedBy, IsGiven, IsGivenTo};
+ghost use Rattle.std.specs.Prelude.{◌≡◌, ◌<◌, IfOk, OnOk, length, map, true, false};
+ghost use Rattle.cck_cache_text.specs.Included.{AddsLines, AreIncluded, IncludesHeader, IsAfter, IsClosedBy, IsGiven, IsGivenTo, may_include};
 ghost use Rattle.cck_cache_text.specs.Sets.{Adds};
 
 use crate::absent::add;
@@ -52,10 +52,20 @@ pub fn add_after(
     Ok(())
 }
 
+// Whether a line begins as one that includes a header.
+fn may_include(line: &[u8]) -> bool
+    ensures { result ≡ may_include line.now }
+{
+    line.starts_with(b"#i")
+}
+
 // Adds the names of the headers that a line includes in quotes.
 fn add_quoted(alloc: Global, names: &mut BTreeSet<Vec<u8>>, line: &[u8]) -> Result<(), AllocError>
     ensures { OnOk result (Adds (λ name. IncludesHeader line.now name true) names.old names.new) }
 {
+    if !may_include(line) {
+        return Ok(());
+    }
     add_after(alloc, names, line, b"#include \"", b"\"")?;
     add_after(alloc, names, line, b"#include_next \"", b"\"")?;
     add_after(alloc, names, line, b"#import \"", b"\"")?;
@@ -70,6 +80,9 @@ fn add_bracketed(
 ) -> Result<(), AllocError>
     ensures { OnOk result (Adds (λ name. IncludesHeader line.now name false) names.old names.new) }
 {
+    if !may_include(line) {
+        return Ok(());
+    }
     add_after(alloc, names, line, b"#include <", b">")?;
     add_after(alloc, names, line, b"#include_next <", b">")?;
     add_after(alloc, names, line, b"#import <", b">")?;

@@ -7,7 +7,7 @@ ghost use Rattle.cck_cache_text.specs.Left.{IsLeft, IsLeftAt, IsLeftOn};
 ghost use Rattle.cck_cache_text.specs.Sets.{Adds, IsSetOf, has_key};
 
 use crate::absent::add;
-use crate::names::names_in;
+use crate::names::MarkedText;
 use cck_digest::UtilError;
 use cck_path::join_path;
 use memchr::memmem;
@@ -65,12 +65,11 @@ fn left_by(
 pub fn left_directories(
     alloc: Global,
     directory: &[u8],
-    text: &[u8],
+    text: &MarkedText<'_>,
 ) -> Result<BTreeSet<Vec<u8>>, UtilError>
     ensures left { IfOk result (λ left. (marks : List spec.Mark) → Marks true text.now marks
         → IsSetOf (IsLeft directory.now marks) left) }
     ensures errors { IsOkUnless result UtilError.Memory }
 {
-    let named = names_in(alloc, text)?;
-    left_by(alloc, directory, &named.names)
+    left_by(alloc, directory, &text.named().names)
 }

@@ -4,7 +4,8 @@
 //!
 //! - [`SearchList`] is a compiler's list of directories for headers, as `gcc -v` prints it.
 //! - [`absent_names`] lists the paths at which a named header would have been found earlier.
-//! - [`file_names`] lists the files that a text names, and [`system_names`] the system headers among them.
+//! - [`MarkedText`] is a preprocessed text with the files that it names, and [`system_names`] lists the system headers
+//!   among them.
 //! - [`looked_at_paths`] lists the paths at which a preprocessor looks for the headers that a text includes.
 //! - [`left_directories`] lists the directories that names of a text leave by `..`, and [`add_left`]
 //!   those of one path.
@@ -43,7 +44,7 @@ pub use dependency_pragma::has_dependency_pragma;
 pub use header_test::{HeaderTest, header_tests};
 pub use left::{add_left, left_directories};
 pub use looked_at::looked_at_paths;
-pub use names::{directory_of, file_names, system_names};
+pub use names::{MarkedText, directory_of, system_names};
 pub use read_files::{assembles_alone, opens_named_alone};
 pub use search_list::SearchList;
 pub use splices::{has_doubtful_lines, unspliced};

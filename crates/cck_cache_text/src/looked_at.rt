@@ -9,7 +9,7 @@ ghost use Rattle.cck_cache_text.specs.TestedPaths.{IsInList};
 
 use crate::absent::{add, joined, path_in};
 use crate::included::included_in;
-use crate::names::{Named, names_in};
+use crate::names::{MarkedText, Named};
 use crate::search_list::SearchList;
 use std::alloc::{AllocError, Global};
 use std::collections::BTreeSet;
@@ -114,25 +114,18 @@ fn add_all_paths(
 /// The only error is lack of memory.
 pub fn looked_at_paths(
     alloc: Global,
-    text: &[u8],
+    text: &MarkedText<'_>,
     arguments: &[Vec<u8>],
     search: &SearchList,
 ) -> Result<BTreeSet<Vec<u8>>, AllocError>
     ensures { IfOk result (λ paths. (marks : List spec.Mark) → Marks true text.now marks
         → IsSetOf (IsLookedAt marks text.now (map (λ a. a.items) arguments.now) (search_fields search.now).directories) paths) }
 {
-    let included = included_in(alloc, text, arguments)?;
-    let named = names_in(alloc, text)?;
+    let included = included_in(alloc, text.bytes(), arguments)?;
+    let named = text.named();
     let listed = &search.directories;
     let mut paths = BTreeSet::new(alloc);
-    add_all_paths(alloc, &mut paths, &named, listed, &included.quoted, true)?;
-    add_all_paths(
-        alloc,
-        &mut paths,
-        &named,
-        listed,
-        &included.bracketed,
-        false,
-    )?;
+    add_all_paths(alloc, &mut paths, named, listed, &included.quoted, true)?;
+    add_all_paths(alloc, &mut paths, named, listed, &included.bracketed, false)?;
     Ok(paths)
 }

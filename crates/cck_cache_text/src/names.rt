@@ -11,6 +11,7 @@ use cck_include::{Mark, Markers};
 use memchr::memrchr;
 use std::alloc::{AllocError, Global};
 use std::collections::BTreeSet;
+use std::marker::Model;
 
 /// The names of the files that a text was made of.
 #[derive(Drop)]
@@ -84,10 +85,8 @@ fn no_names(alloc: Global) -> Result<Named, AllocError>
     })
 }
 
-/// The names in a text.
-///
-/// The only error is lack of memory.
-pub fn names_in(alloc: Global, text: &[u8]) -> Result<Named, AllocError>
+// The names in a text.
+fn names_in(alloc: Global, text: &[u8]) -> Result<Named, AllocError>
     ensures { IfOk result (λ named.
         (marks : List spec.Mark) → Marks true text.now marks → AreNames marks named) }
 {
@@ -104,20 +103,59 @@ pub fn names_in(alloc: Global, text: &[u8]) -> Result<Named, AllocError>
     Ok(named)
 }
 
-/// The names of the files that this preprocessed text names, in order and each once: no name of no
-/// file, which are `<built-in>`, `<command-line>` and `<command line>`, and no working directory.
-///
-/// The only error is lack of memory.
-pub fn file_names(alloc: Global, text: &[u8]) -> Result<BTreeSet<Vec<u8>>, AllocError>
-    ensures { IfOk result (λ names. (marks : List spec.Mark) → Marks true text.now marks
-        → (name : List ℕ) → has_key names name ≡ is_named marks name) }
-{
-    let Named {
-        names,
-        systems: _,
-        directories: _,
-    } = names_in(alloc, text)?;
-    Ok(names)
+/// A preprocessed text, with the names of the files that it names.
+#[derive(Drop)]
+pub struct MarkedText<'a> {
+    bytes: &'a [u8],
+    named: Named,
+}
+
+impl<'a> Model for MarkedText<'a> {
+    ghost use Rattle.std.specs.Prelude.{ℕ, List, true};
+    ghost use Rattle.cck_include.specs.Marks.{Mark, Marks};
+    ghost use Rattle.cck_cache_text.specs.Names.{AreNames};
+
+    ghost Value = { List ℕ };
+
+    ghost view = { λ a. a.bytes.now };
+
+    ghost invariant = { λ a.
+        (marks : List Mark) → Marks true a.bytes.now marks → AreNames marks a.named };
+}
+
+impl<'a> MarkedText<'a> {
+    /// Returns the text of these bytes, with the names in it.
+    ///
+    /// The only error is lack of memory.
+    pub fn new(alloc: Global, bytes: &'a [u8]) -> Result<MarkedText<'a>, AllocError>
+        ensures { IfOk result (λ text. text ≡ bytes.now) }
+    {
+        let named = names_in(alloc, bytes)?;
+        Ok(MarkedText { bytes, named })
+    }
+
+    /// Returns the bytes of the text.
+    pub fn bytes(&self) -> &[u8]
+        ensures { result.now ≡ self.now }
+    {
+        self.bytes
+    }
+
+    // The names, those of system headers and the directories.
+    pub(crate) fn named(&self) -> &Named
+        ensures { (marks : List spec.Mark) → Marks true self.now marks → AreNames marks result.now }
+    {
+        &self.named
+    }
+
+    /// Returns the names of the files that the text names, in order and each once: no name of no file,
+    /// which are `<built-in>`, `<command-line>` and `<command line>`, and no working directory.
+    pub fn names(&self) -> &BTreeSet<Vec<u8>>
+        ensures { (marks : List spec.Mark) → Marks true self.now marks
+            → (name : List ℕ) → has_key result.now name ≡ is_named marks name }
+    {
+        &self.named.names
+    }
 }
 
 // Adds the names of the files that these lines enter as system headers.
@@ -139,16 +177,11 @@ fn add_entered(
 /// macro of a system header makes.
 ///
 /// The only error is lack of memory.
-pub fn system_names(alloc: Global, text: &[u8]) -> Result<BTreeSet<Vec<u8>>, AllocError>
+pub fn system_names(alloc: Global, text: &MarkedText<'_>) -> Result<BTreeSet<Vec<u8>>, AllocError>
     ensures { IfOk result (λ names. (marks : List spec.Mark) → Marks true text.now marks
         → IsSetOf (IsSystem marks text.now) names) }
 {
-    let Named {
-        names: _,
-        systems,
-        directories: _,
-    } = names_in(alloc, text)?;
-    let mut systems = systems;
-    add_entered(alloc, &mut systems, &text_lines(alloc, text)?)?;
+    let mut systems = text.named().systems.clone()?;
+    add_entered(alloc, &mut systems, &text_lines(alloc, text.bytes())?)?;
     Ok(systems)
 }

@@ -6,7 +6,7 @@ ghost use Rattle.cck_include.specs.Marks as spec;
 ghost use Rattle.cck_include.specs.Marks.{Marks};
 ghost use Rattle.cck_cache_text.specs.ReadFiles.{AreNamesOf, IsAssembledRule, IsOpenedRule, file_of, is_made_file, is_name_of, is_of_compiler, without_dots};
 
-use crate::names::{directory_of, names_in};
+use crate::names::{MarkedText, directory_of};
 use crate::rule::rule_names;
 use std::alloc::{AllocError, Global};
 use std::collections::BTreeSet;
@@ -71,13 +71,13 @@ fn is_name_of(names: &BTreeSet<Vec<u8>>, name: &[u8]) -> bool
     names.contains(name) || names.iter().any(|of| without_dots(of) == name)
 }
 
-// Whether a preprocessed text names each of these files. The only error is lack of memory.
-fn names_all(alloc: Global, text: &[u8], read: &[Vec<u8>]) -> Result<bool, AllocError>
-    ensures { IfOk result (λ all. (marks : List spec.Mark) → Marks true text.now marks
-        → (IsTrue all ↔ AreNamesOf marks (map (λ name. name.items) read.now))) }
+// Whether a preprocessed text names each of these files.
+fn names_all(text: &MarkedText<'_>, read: &[Vec<u8>]) -> bool
+    ensures { (marks : List spec.Mark) → Marks true text.now marks
+        → (IsTrue result ↔ AreNamesOf marks (map (λ name. name.items) read.now)) }
 {
-    let named = names_in(alloc, text)?;
-    Ok(read.iter().all(|name| is_name_of(&named.names, name)))
+    let named = text.named();
+    read.iter().all(|name| is_name_of(&named.names, name))
 }
 
 /// Whether the assembler read nothing but what the compiler made of this input, by the dependency file
@@ -101,14 +101,18 @@ pub fn assembles_alone(alloc: Global, input: &[u8], rule: &[u8]) -> Result<bool,
 /// left out. `false` where the file has no rule that can be read.
 ///
 /// The only error is lack of memory.
-pub fn opens_named_alone(alloc: Global, text: &[u8], rule: &[u8]) -> Result<bool, AllocError>
+pub fn opens_named_alone(
+    alloc: Global,
+    text: &MarkedText<'_>,
+    rule: &[u8],
+) -> Result<bool, AllocError>
     ensures { IfOk result (λ alone. IsTrue alone ↔ IsOpenedRule text.now rule.now) }
 {
     if rule.is_empty() {
         return Ok(true);
     }
     match rule_names(alloc, rule)? {
-        Some(names) => names_all(alloc, text, &names),
+        Some(names) => Ok(names_all(text, &names)),
         None => Ok(false),
     }
 }

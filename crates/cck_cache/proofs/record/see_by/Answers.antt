@@ -1,42 +1,54 @@
-use Rattle.std.proofs.Common.{◌∙◌, inl, inr, true, false, refl, subst}
+use Rattle.std.proofs.Common.{◌∙◌, Bool, inl, inr, true, false, refl, subst}
 use Rattle.cck_cache_rules.specs.PathTest.{tests_of}
+use Rattle.cck_cache_files.specs.Absence.{AreTestsOf, IsRefusedByPath}
 use Rattle.cck_cache_files.specs.TextCopies.{IsCopiesVerdict}
 use Rattle.cck_cache.specs.Record.{HasAskedTests, HasPathTests, HasUnnamedTests}
 use Rattle.cck_cache.proofs.InputLemmas.{calm_kept}
 use Rattle.cck_cache.proofs.RecordLemmas.{calm_grown, files_of, gathered_over}
 use Rattle.cck_files.proofs.CallsLemmas.{keeps_all}
 use Rattle.cck_files.specs.FileMap.{FileMap}
+use Rattle.cck_path.specs.Bytes.{lists_of}
 use Rattle.cck_cache.proofs.record.see_by.Goals as goal
 
+pub returns-in-Refused : goal.returns-in-Refused
+returns-in-Refused g c renamed =
+    let preprocessed = c.args.preprocessed.now in
+    let request = preprocessed.request.now in
+    inr (inl (record {
+      states = c.absence_of.new.states;
+      since_is = c.in_ok-refusal.ensures.kept.since ∙ c.new-states.ensures.since;
+      refused = subst (λ (r : Bool). IsRefusedByPath r c.absence_of.new.states request.directory.now preprocessed.text.now (lists_of request.arguments.items) preprocessed.printed.now c.in-Refused.refusal) renamed (rw c.in-Refused.is at c.in_ok-refusal.ensures.absence);
+    }))
+
 pub returns-in-Refused-tested : goal.returns-in-Refused-tested
-returns-in-Refused-tested g c =
+returns-in-Refused-tested g c renamed =
     let request = c.args.preprocessed.now.request.now in
     let text = c.args.preprocessed.now.text.now in
     let cwd = c.as_bytes-cwd.result.now in
     let after = c.add_named_files.new.files in
     inl (record {
       files = after.files;
-      are_files = files_of request text cwd c.in_ok-files.files after c.in_ok-files.ensures.calm c.in_ok-files.ensures.input c.in_ok-is_doubtful.ensures.named c.as_bytes-cwd.ensures.value;
+      are_files = files_of request text cwd c.in_ok-files.files after c.in_ok-files.ensures.calm c.in_ok-files.ensures.input (rw c.bytes.ensures at c.in_ok-is_doubtful.ensures.named) c.as_bytes-cwd.ensures.value;
       states = c.tested_by.new.states;
       since_is = c.tested_by.ensures.kept.since ∙ c.new-asked.ensures.since;
       refused = rw c.in-Refused-tested.is at c.in_ok-tested.ensures.tested;
     })
 
 pub returns-then-branch : goal.returns-then-branch
-returns-then-branch g c =
+returns-then-branch g c renamed =
     let request = c.args.preprocessed.now.request.now in
     let text = c.args.preprocessed.now.text.now in
     let cwd = c.as_bytes-cwd.result.now in
     let after = c.add_named_files.new.files in
     inr (inr (inr (record {
       files = after.files;
-      are_files = files_of request text cwd c.in_ok-files.files after c.in_ok-files.ensures.calm c.in_ok-files.ensures.input c.in_ok-is_doubtful.ensures.named c.as_bytes-cwd.ensures.value;
+      are_files = files_of request text cwd c.in_ok-files.files after c.in_ok-files.ensures.calm c.in_ok-files.ensures.input (rw c.bytes.ensures at c.in_ok-is_doubtful.ensures.named) c.as_bytes-cwd.ensures.value;
       found = subst (λ (m : FileMap). IsCopiesVerdict m request text true) c.in_ok-tested.ensures.keeps.same_map (rw c.if-branch.true at c.in_ok-may_have_copies.ensures.found);
       is_other = refl;
     })))
 
 pub returns-in-Refused-others : goal.returns-in-Refused-others
-returns-in-Refused-others g c =
+returns-in-Refused-others g c renamed =
     inr (inr (inl (record {
       states = c.unnamed_by.new.states;
       since_is = c.unnamed_by.ensures.kept.since ∙ (c.in_ok-is_doubtful.ensures.kept.since ∙ (c.in_ok-refusal.ensures.kept.since ∙ c.new-states.ensures.since));
@@ -44,7 +56,7 @@ returns-in-Refused-others g c =
     })))
 
 pub returns-in_ok-found-in-Tests-others : goal.returns-in_ok-found-in-Tests-others
-returns-in_ok-found-in-Tests-others g c =
+returns-in_ok-found-in-Tests-others g c renamed =
     let is = c.gathered_of.ensures in
     let request = c.args.preprocessed.now.request.now in
     let since = c.args.preprocessed.now.since in
@@ -62,7 +74,7 @@ returns-in_ok-found-in-Tests-others g c =
     let path_tests : HasPathTests request since printed text made = record {
       states = c.absence_of.new.states;
       since_is = c.in_ok-refusal.ensures.kept.since ∙ c.new-states.ensures.since;
-      tests_are = rw c.in-Tests.is at c.in_ok-refusal.ensures.absence;
+      tests_are = subst (λ (r : Bool). AreTestsOf r c.absence_of.new.states request.directory.now text (lists_of request.arguments.items) printed made) renamed (rw c.in-Tests.is at c.in_ok-refusal.ensures.absence);
     } in
     let tested : HasAskedTests request since printed text after.files tests = record {
       states = c.tested_by.new.states;
@@ -74,12 +86,12 @@ returns-in_ok-found-in-Tests-others g c =
       since_is = c.unnamed_by.ensures.kept.since ∙ (c.in_ok-is_doubtful.ensures.kept.since ∙ (c.in_ok-refusal.ensures.kept.since ∙ c.new-states.ensures.since));
       tests_are = rw c.in-Tests-others.is at c.in_ok-others.ensures.unnamed;
     } in
-    let are = files_of request text cwd before after c.in_ok-files.ensures.calm c.in_ok-files.ensures.input c.in_ok-is_doubtful.ensures.named c.as_bytes-cwd.ensures.value in
+    let are = files_of request text cwd before after c.in_ok-files.ensures.calm c.in_ok-files.ensures.input (rw c.bytes.ensures at c.in_ok-is_doubtful.ensures.named) c.as_bytes-cwd.ensures.value in
     let first = keeps_all after middle compared c.in_ok-tested.ensures.keeps c.in_ok-may_have_copies.ensures.keeps in
     let keeps = keeps_all after compared new first c.in_ok-others.ensures.keeps in
     let no_copies = subst (λ (m : FileMap). IsCopiesVerdict m request text false) c.in_ok-tested.ensures.keeps.same_map (rw c.if-branch.false at c.in_ok-may_have_copies.ensures.found) in
     let there : HasUnnamedTests request since printed text after.files others = subst (λ (m : FileMap). HasUnnamedTests request since printed text m others) first.same_map unnamed in
     rw (is.files, is.tests, is.asked, is.unnamed) (
       gathered_over request since printed text after.files new.files made tests others keeps.same_map are no_copies path_tests tested there,
-      calm_kept after new keeps (calm_grown text cwd before after c.in_ok-is_doubtful.ensures.named c.in_ok-files.ensures.calm),
+      calm_kept after new keeps (calm_grown text cwd before after (rw c.bytes.ensures at c.in_ok-is_doubtful.ensures.named) c.in_ok-files.ensures.calm),
     )

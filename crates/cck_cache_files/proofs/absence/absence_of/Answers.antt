@@ -46,7 +46,11 @@ returns-in_default-4-clause-absence g c =
     inr (record { search = search; is_search = rw c.in-Some.is at c.in_ok-search.ensures; doubtful = found })
 
 pub returns-in-None-clause-absence : goal.returns-in-None-clause-absence
-returns-in-None-clause-absence g c = rw c.in-None.is at c.in_ok-tests_after.ensures.tests
+returns-in-None-clause-absence g c = record {
+  search = search_fields c.in-Some.search;
+  is_search = rw c.in-Some.is at c.in_ok-search.ensures;
+  linked = rw c.in-None.is at c.in_ok-tests_after.ensures.tests;
+}
 
 pub returns-clause-absence : goal.returns-clause-absence
 returns-clause-absence g c =
@@ -74,5 +78,5 @@ returns-clause-absence g c =
       earlier = earlier;
       earlier_are = λ marks are. tests_for_same states directory IsName (IsAbsentName marks text (lists_of c.args.preprocessed.now.request.now.arguments.items) search) earlier
           (λ name has. ((named marks are).1 name).0 has) (λ name is. ((named marks are).1 name).1 is) found;
-      after = subst (λ (ts : List Test). AreTestsAfter directory text ts (tests_of c.in-Some-5.tests.items)) first_are (rw c.in-Some-5.is at c.in_ok-tests_after.ensures.tests);
+      after = subst (λ (ts : List Test). AreTestsAfter c.args.preprocessed.now.renames search directory text ts (tests_of c.in-Some-5.tests.items)) first_are (rw c.in-Some-5.is at c.in_ok-tests_after.ensures.tests);
     }

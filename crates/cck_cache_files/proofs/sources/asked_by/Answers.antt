@@ -7,7 +7,7 @@ use Rattle.cck_cache_files.proofs.sources.asked_by.Goals as goal
 
 pub returns-clause-asked : goal.returns-clause-asked
 returns-clause-asked c marks are =
-    let names = c.in_ok-names.names in
-    let same = c.in_ok-names.ensures marks are in
+    let names = c.names.result.now in
+    let same = c.names.ensures marks are in
     asked_same c.args.files.now.files c.args.directory.now (λ name. IsTrue (has_key names name)) (λ name. IsTrue (is_named marks name)) (search_fields c.args.search.now).directories c.in_ok-asked.asked
     (λ name has. sym (same name) ∙ has) (λ name is. same name ∙ is) c.in_ok-asked.ensures.asked

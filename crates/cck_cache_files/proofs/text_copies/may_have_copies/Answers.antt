@@ -16,4 +16,4 @@ returns-clause-found c = λ marks named.
     subst (λ (d : Bytes). IsSetOf (IsPathOfName (λ name. (name ≡ request.input.now) ⊎ IsTrue (is_named marks name)) d) paths) c.as_bytes-directory.ensures.value
     (subst (λ (i : Bytes). IsSetOf (IsPathOfName (λ name. (name ≡ i) ⊎ IsTrue (is_named marks name)) c.as_bytes-directory.result.now) paths) c.as_bytes.ensures.value (c.in_ok-paths.ensures.paths marks named))
     in
-    copies_same c.args.files.now.files (IsTrue c.may_import.result) (MayImport text) (λ path. IsTrue (has_key paths path)) (IsPathOfText request marks) _ c.may_import.ensures are c.in_ok-found.ensures.found
+    copies_same c.args.files.now.files (IsTrue c.may_import.result) (MayImport text) (λ path. IsTrue (has_key paths path)) (IsPathOfText request marks) _ (rw c.bytes.ensures at c.may_import.ensures) are c.in_ok-found.ensures.found

@@ -14,7 +14,7 @@ returns-clause-compared c =
     let known = c.in_ok-known.known.items in (
       elim c.else-may_import.branch [
         | else-may_import-via-then-may_import+else-not-want_no_file w ↦ λ q. absurd (false≢true (sym (w.if-not-want_no_file.ensures ∙ q.1)))
-        | else-may_import-via-else-may_import w ↦ λ q. absurd (false≢true (w.if-may_import.ensures.1 q.0))
+        | else-may_import-via-else-may_import w ↦ λ q. absurd (false≢true ((rw c.bytes.ensures at w.if-may_import.ensures).1 q.0))
       ],
       λ marks read. subst (λ (i : Bytes). AreKnown files request.directory.now (λ name. (name ≡ i) ⊎ IsTrue (is_named marks name)) known) c.as_bytes.ensures.value
           (subst (λ (d : Bytes). AreKnown files d (λ name. (name ≡ c.as_bytes.result.now) ⊎ IsTrue (is_named marks name)) known) c.as_bytes-directory.ensures.value (c.in_ok-known.ensures.known marks read)),

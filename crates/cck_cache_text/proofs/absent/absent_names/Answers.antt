@@ -8,24 +8,24 @@ use Rattle.cck_cache_text.proofs.absent.absent_names.Goals as goal
 
 pub returns-then-branch : goal.returns-then-branch
 returns-then-branch c marks are =
-    let named = c.in_ok-named.named in
+    let named = c.named-named.result.now in
     let included = c.in_ok-included in
     let first = c.in_ok-paths.paths in
     let start = c.add_in.new.paths in
     let implicit : Adds (IsForImplicit (has_key named.names) (search_fields c.args.search.now).directories) first start =
     for_implicit (has_key named.names) c.args.search.now.directories.items first start
     (subst (λ (ds : List (Vec ℕ)). Adds (InFirst (has_key named.names) ds) first start) c.deref-2.ensures.value c.in_ok-add_in.ensures) in
-    all_found c.args.text.now (map (λ a. a.items) c.args.arguments.now) included.included.quoted included.ensures.quoted marks named (c.in_ok-named.ensures marks are) (search_fields c.args.search.now) first start
+    all_found c.args.text.now (map (λ a. a.items) c.args.arguments.now) included.included.quoted (rw c.bytes.ensures at included.ensures).quoted marks named (c.named-named.ensures marks are) (search_fields c.args.search.now) first start
     (rw c.deref.ensures.value at c.in_ok-paths.ensures) implicit c.add_names.new.paths (rw (c.if-branch.true, c.deref-3.ensures.value) at c.in_ok-add_names.ensures)
 
 pub returns : goal.returns
 returns c marks are =
-    let named = c.in_ok-named.named in
+    let named = c.named-named.result.now in
     let included = c.in_ok-included in
     let first = c.in_ok-paths.paths in
     let start = c.add_in.new.paths in
     let implicit : Adds (IsForImplicit (has_key named.names) (search_fields c.args.search.now).directories) first start =
     for_implicit (has_key named.names) c.args.search.now.directories.items first start
     (subst (λ (ds : List (Vec ℕ)). Adds (InFirst (has_key named.names) ds) first start) c.deref-2.ensures.value c.in_ok-add_in.ensures) in
-    none_found c.args.text.now (map (λ a. a.items) c.args.arguments.now) included.included.quoted included.ensures.quoted marks named (c.in_ok-named.ensures marks are) (search_fields c.args.search.now) first start
+    none_found c.args.text.now (map (λ a. a.items) c.args.arguments.now) included.included.quoted (rw c.bytes.ensures at included.ensures).quoted marks named (c.named-named.ensures marks are) (search_fields c.args.search.now) first start
     (rw c.deref.ensures.value at c.in_ok-paths.ensures) implicit c.add_names.new.paths (rw (c.if-branch.false, c.deref-3.ensures.value) at c.in_ok-add_names.ensures)

@@ -8,9 +8,9 @@ use Rattle.cck_cache_text.proofs.read_files.names_all.Goals as goal
 
 pub returns : goal.returns
 returns c marks are_marks =
-    let named = c.in_ok-named.named in
+    let named = c.named-named.result.now in
     let read = c.args.read.now in
-    let are = c.in_ok-named.ensures marks are_marks in
+    let are = c.named-named.ensures marks are_marks in
     let all : c.all.result ≡ list_all (λ name. is_name_of named.names name.items) read =
     all_from_yields_List (λ name. is_name_of named.names name.items) _ _ c.all.result c.all.ensures.ran (YieldsList-from_slice read cc) (λ x b q k. search rules) in
     (λ h. are_names marks named are read (sym all ∙ h), λ h. all ∙ names_are marks named are read h)

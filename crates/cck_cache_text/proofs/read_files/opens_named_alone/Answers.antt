@@ -1,7 +1,6 @@
-use Rattle.std.proofs.Common.{◌↔◌, IsTrue, [], true, Some, map, refl, sym}
-use Rattle.std.proofs.lemmas.Result.{IfOk-weaker}
+use Rattle.std.proofs.Common.{[], true, Some, map, refl, sym}
 use Rattle.cck_include.proofs.EachText.{has_one_list}
-use Rattle.cck_cache_text.specs.ReadFiles.{AreNamesOf, IsOpenedRule}
+use Rattle.cck_cache_text.specs.ReadFiles.{AreNamesOf}
 use Rattle.cck_cache_text.specs.Rule.{IsRuleRead}
 use Rattle.cck_cache_text.proofs.ReadLemmas.{listed_none, listed_rule, only_names, rule_listed}
 use Rattle.cck_cache_rules.proofs.ReadingLemmas.{not_empty}
@@ -18,9 +17,7 @@ returns-in-Some c =
     let names = map (λ n. n.items) c.in-Some.names.items in
     let read : IsRuleRead rule (Some names) = rw c.in-Some.is at c.in_ok-names.ensures in
     let list = has_one_list true text in
-    IfOk-weaker c.names_all.result _ (λ alone. IsTrue alone ↔ IsOpenedRule text rule)
-    (λ alone is. (
+    let is = rw c.deref.ensures.value at c.names_all.ensures in (
       λ h. (names, listed_rule rule names some read.0, λ marks are. (is marks are).0 h),
       λ other. (is list.0 list.1).1 (only_names (AreNamesOf list.0) other.0 names (read.1 other.0 (rule_listed rule other.0 some other.1)) (other.2 list.0 list.1)),
-    ))
-    (rw c.deref.ensures.value at c.names_all.ensures)
+    )
