@@ -31,8 +31,20 @@ count() {
     (trap '' XFSZ; share; [ -d "$cck_store/counts" ] || mkdir -p "$cck_store/counts"; printf . >> "$cck_store/counts/$1") 2>/dev/null
 }
 
+# Whether a link on the way to a path leads to nothing. Where links go round in a circle a compiler looks for a program no
+# further, and a shell does.
+leads_nowhere() {
+    cck_next=$1
+    while [ -n "$cck_next" ]; do
+        if [ -h "$cck_next" ] && ! [ -e "$cck_next" ]; then return 0; fi
+        cck_next=${cck_next%/*}
+    done
+    return 1
+}
+
 # Sets `cck_located` to the absolute path of a program, as the shell finds it, or to nothing. It starts no process.
-# The program does the same (crates/cck_cache_files/src/programs.rt).
+# The program does the same (crates/cck_cache_files/src/programs.rt). Where it is not known which one a compiler finds
+# `cck_doubtful` is set.
 locate() {
     cck_directories=$PATH:
     while [ -n "$cck_directories" ]; do
@@ -46,6 +58,7 @@ locate() {
         *) cck_located=$PWD/$cck_located ;;
         esac
         if [ -f "$cck_located" ] && [ -x "$cck_located" ]; then return; fi
+        if ! [ -e "$cck_located" ] && leads_nowhere "$cck_located"; then cck_doubtful=1; fi
     done
     cck_located=
 }
@@ -89,9 +102,11 @@ has_tools || cck_reason=no-tool
 case $CPATH$C_INCLUDE_PATH$CPLUS_INCLUDE_PATH in
 *"$cck_newline"*) cck_reason=variable ;;
 esac
+cck_doubtful=
 locate as
 cck_assembler=$cck_located
 locate "$cck_compiler"
+[ -z "$cck_doubtful" ] || cck_reason=variable
 [ -n "$cck_located" ] || cck_reason=no-compiler
 # Files that the caller's mask closes for the caller can't be read again.
 case $(umask) in

@@ -33,7 +33,7 @@ preprocess_pedantic() {
 preprocess() {
     cck_warnings='-fno-canonical-system-headers -Wno-pedantic'
     ! is_cplusplus || cck_warnings='-fno-canonical-system-headers -Wno-error=pedantic -Wliteral-suffix'
-    ! is_clang || cck_warnings='-Wno-everything -Wdate-time -Rmodule-build -Rmodule-import -MD -MT listed -MF "$cck_scratch/$1-listed"'
+    ! is_clang || cck_warnings='-Wno-everything -Wdate-time -Rmodule-build -Rmodule-import -fno-color-diagnostics -MD -MT listed -MF "$cck_scratch/$1-listed"'
     cck_preprocessor='LC_ALL=C "$cck_compiler"'
     case $cck_preprocessed in
     *-pedantic-errors*) is_clang || cck_preprocessor=preprocess_pedantic ;;
@@ -67,8 +67,11 @@ find_own() {
 # those of all names that a file has in brackets after what may be such a macro; and no file and no macro may have two words
 # that make the macro's name, of which those are kept that have a part of its end. `goes_on` says whether a raw string may go
 # on in the next line: what looks like its beginning counts in a string too.
-# `spaces` are what clang takes for blanks where it compiles, and not where it preprocesses: an argument of a macro that asks
-# whether it is empty, by `__VA_OPT__` or `##`, may be so there alone (`pastes`).
+# `spaces` are what clang takes for blanks where it compiles, and not where it preprocesses, also by their numbers: so an
+# argument may be empty, or a macro be called, for the compiler alone. They are nothing in a comment or a literal
+# (`judge_spaces`, which is called for a file that has one; `code_of`). A word that `__is_identifier` asks for may be a keyword
+# for the preprocessor alone, and no line of the text shows the header that `include_instead` names: neither name is there,
+# nor a part of it that may be pasted together with the rest.
 #
 # An awk in which a string ends at a zero byte would not see what is after it, so that each text is refused.
 # A file has nothing for `read_line` unless it has what `telling` matches, with splices, or a byte that is zero, where grep takes
@@ -83,7 +86,11 @@ cck_reading='
         if (length(sprintf("%c", 0)) != 1) reason = "other-file"
         known = "text|data|bss|previous|popsection|p2align|balign|align|byte|[248]byte|short|word|value|long|int|quad|ascii" \
             "|asciz|string|zero|skip|space|globl|global|weak|hidden|local|comm|type|size|set|symver|ident"
-        spaces = "\302[\205\240]|\341\232\200|\341\240\216|\342\200[\200-\212\250\251\257]|\342\201\237|\343\200\200"
+        spaces = "\302[\205\240]|\341\232\200|\341\240\216|\342\200[\200-\212\250\251\257]|\342\201\237|\343\200\200" \
+            "|([\\\\]|[?][?]/)[uU](0000)?(00(85|[aA]0)|1680|180[eE]|20(0[0-9aA]|2[89fF]|5[fF])|3000)"
+        letter_spaces = substr(spaces, 1, index(spaces, "|([") - 1)
+        instead = "(^|[^A-Za-z0-9_$])include_(i(n(s(t(ea?)?)?)?)?)?([^A-Za-z0-9_$]|$)|_instead([^A-Za-z0-9_$]|$)"
+        keyword = "(^|[^A-Za-z0-9_$])__is_id?(e(n(t(i(f(ie?)?)?)?)?)?)?([^A-Za-z0-9_$]|$)|__is_identifier"
         first_of_test = "__ha(s(_(i(n(c(l(u(de?)?)?)?)?)?|e(m(b(ed?)?)?)?)?)?)?([^A-Za-z0-9_$]|$)"
         blank = "[ \t\r\f\013]"
         comment = "/[*]([^*]|[*]+[^*/])*"
@@ -92,11 +99,13 @@ cck_reading='
         other = "[^A-Za-z_]*"
         telling = "[hp]" other "_" other "m" other "a" other "c" other "r" other "o" \
             "|a" other "s" other "_" other "b" other "u" other "i" other "l" other "t" other "i" other "n" \
-            "|(^|[^A-Za-z0-9_$])__ha|a32|builtin_ia|[?][?]/|[A-Za-z0-9_?%][\\][[:cntrl:] ]" \
+            "|(^|[^A-Za-z0-9_$])__ha|a32|builtin_ia|[?][?]/|[A-Za-z0-9_?%\\][\\][[:cntrl:] ]" \
             "|(#|%:|[?][?]=)[[:space:]]*([0-9/]|[\\])"
     }
     function read_line(line, whole) {
-        if (is_clang && line ~ spaces) has_spaces = 1
+        if (is_clang && line ~ spaces) is_spaced = 1
+        if (is_clang && line ~ instead) reason = "other-file"
+        if (is_clang && !is_c && !is_other && line ~ keyword) reason = "header-test"
         if (is_clang && !is_c && index(line, "R\"") && line ~ /#|%:|[?][?]=|[*]\// && goes_on(line)) reason = "header-test"
         if (is_assembler && (line ~ /as_inc|as_emb|HAS_INC/ || line ~ first_of_test)) reason = "header-test"
         if (calls && (index(line, "HAS_") || index(line, "INCLUDE") || index(line, "has_") || index(line, "include"))) {
@@ -169,10 +178,40 @@ cck_reading='
         }
         return close(file) != 0
     }
+    function code_of(line, code, part) {
+        while (line != "") {
+            if (in_comment) {
+                if (!index(line, "*/")) return code
+                line = substr(line, index(line, "*/") + 2)
+                in_comment = 0
+            }
+            if (!match(line, /"([^"\\]|\\.)*"|\047([^\047\\]|\\.)*\047|\/[*]|\/\//)) return code line
+            part = substr(line, RSTART, RLENGTH)
+            code = code substr(line, 1, RSTART - 1) " "
+            line = substr(line, RSTART + RLENGTH)
+            if (part == "//") return code
+            if (part == "/*") in_comment = 1
+            else if (part ~ /^\047/ && (length(part) > 12 || code ~ /[0-9A-Fa-f] $/)) is_unclear = 1
+        }
+        return code
+    }
+    function judge_spaces(file, line, held, code) {
+        in_comment = is_unclear = 0
+        while ((getline line < file) > 0) {
+            if (sub(/\\[ \t\r\f\013]*$/, "", line)) { held = held line; continue }
+            line = held line
+            held = ""
+            code = code_of(line)
+            if (code ~ /["\047]|R $/ || line ~ /R"|[?][?]\//) is_unclear = 1
+            if ((is_unclear ? line : code) ~ spaces) has_spaces = 1
+        }
+        if (close(file) != 0 || held ~ spaces) has_spaces = 1
+    }
     function path_of(name) { return name ~ /^\// ? name : "./" name }
     function read_file(name, file, line, held, is_later) {
         file = path_of(name)
         letters = ""
+        is_spaced = 0
         if (name == "/dev/null") return
         if (name ~ /^\/dev\//) { asks = unread = 1; return }
         while ((getline line < file) > 0) {
@@ -183,6 +222,7 @@ cck_reading='
         read_line(held)
         if (opens) { asks = 1; opens = 0 }
         if (close(file) != 0) asks = unread = 1
+        if (is_spaced) judge_spaces(file)
     }
     function find_relevant(names_of, pattern, files, size, name, command, line, state, counted) {
         for (name in names_of) {
@@ -212,7 +252,7 @@ cck_reading='
         step_of[id] = substr(flags, 1, 2)
         if (index(name, "\\") || (is_clang && index(name, ".framework/"))) reason = "other-file"
         place = name
-        if (is_clang) sub(/^\/usr\/bin\/\.\.\/lib\/gcc\/[^\/]+\/[0-9]+\/\.\.\/\.\.\/\.\.\/\.\.\/include\//, "/usr/include/", place)
+        if (is_clang) sub(/^\/usr\/(bin\/\.\.\/)?lib\/gcc\/[^\/]+\/[0-9]+\/\.\.\/\.\.\/\.\.\/\.\.\/include\//, "/usr/include/", place)
         is_own[id] = index(place, ENVIRON["cck_own"]) == 1 && place !~ /\/\.\.\//
         is_of_project[id] = !is_own[id] && (index(place, "/usr/include/") != 1 || place ~ /\/\.\.\//)
         is_inner[id] = name ~ /^<.*>$/
@@ -365,7 +405,7 @@ cck_reading='
         for (name in listed) if (index(place, place_of(name) "/") == 1) {
             name = place
             sub(/.*\//, "", name)
-            return !(name in included) && (index(place, "/usr/include/") == 1 || index(place, place_of(ENVIRON["cck_own"]) "/") == 1)
+            return !(name in included) && index(place, place_of(ENVIRON["cck_own"]) "/") == 1
         }
         return 0
     }
@@ -432,7 +472,7 @@ cck_reading='
         }
     }
     function names_freely(line) {
-        gsub(/(weakref|abi_tag)(__)?[ \t]*[(][ \t]*"[A-Za-z0-9_.]*"[ \t]*[)]/, "", line)
+        gsub(/(weakref|abi_tag)(__)?[ \t]*[(][ \t]*"[A-Za-z0-9_][A-Za-z0-9_.]*"[ \t]*[)]/, "", line)
         return line ~ /weakref|abi_tag/
     }
     function judge_code(code, word) {
@@ -440,7 +480,9 @@ cck_reading='
         gsub(/\\n/, ";", code)
         gsub(/\\t/, " ", code)
         if (code ~ /(^|[;:])[^A-Za-z;:]*%[A-Za-z]?([0-9]|\[)/ || (code ~ /["#]|\/[\/*]/ && index(code, "%"))) reason = "assembler-include"
+        if (code ~ /[^ \t;:][ \t]*\.(push)?section|section[ \t]+\.?inc/) reason = "assembler-include"
         gsub(/\.(push)?section[ \t]+[A-Za-z0-9_.$-]+/, " ", code)
+        if (code ~ /\.(text|data|bss|previous|popsection)([ \t]+[^ \t;]|[^A-Za-z0-9_$ \t;])/) reason = "assembler-include"
         while (match(code, /\.[A-Za-z0-9_$%\\]*/)) {
             word = substr(code, RSTART + 1, RLENGTH - 1)
             code = substr(code, RSTART + RLENGTH)
@@ -480,21 +522,24 @@ cck_judging='
     !is_text {
         if (/warning: /) warns = 1
         if (/might prevent reproducible builds|time macro is not reproducible/) shows_time = 1
-        if (is_clang && /remark: (building|importing) module/) reason = "other-file"
+        if (is_clang && /(building|importing) module/) reason = "other-file"
         if (is_clang) read_search($0)
         next
     }
     is_clang && !is_read++ {
         if (!is_given || (has_plusplus && plusplus < 2)) reason = "other-file"
         if (has_system && !("/usr/include/x86_64-linux-gnu" in given)) reason = "other-file"
-        for (name in given)
+        for (name in given) {
             if (!(name in listed)) print "ignoring duplicate directory \"" name "\"" > (ENVIRON["cck_scratch"] "/left-out")
+            # The headers of C++ that clang takes first, where they are there.
+            if (sub(/\/include\/c[+][+]\//, "/x86_64-linux-gnu/include/c++/", name) && name ~ /\/[0-9]+$/)
+                print "ignoring nonexistent directory \"" name "\"" > (ENVIRON["cck_scratch"] "/left-out")
+        }
     }
     is_clang && standard == "" && /^#define __cplusplus / { standard = $3 + 0 }
     is_clang { is_raw = raw_end != "" }
-    is_clang && $0 ~ spaces { reason = "other-file" }
-    is_clang && !is_raw && (/^#(define|undef) / ? !/asm|R"|struct|target|__has_include|##|__VA_OPT__/ : nesting == 0 && !waits && !/#|asm|R"|target|weakref|abi_tag/) { next }
-    is_clang && /^#define [^ (]+[(][^)]*[.][.][.][)].*(##|__VA_OPT__)/ { pastes = 1 }
+    is_clang && $0 ~ letter_spaces { reason = "other-file" }
+    is_clang && !is_raw && (/^#(define|undef) / ? !/asm|R"|struct|target|__has_include/ : nesting == 0 && !waits && !/#|asm|R"|target|weakref|abi_tag/) { next }
     is_clang && /weakref|abi_tag/ && names_freely($0) { has_names = 1 }
     is_raw || (is_clang && !/^#([a-z_]| [0-9])/ && (nesting > 0 || waits || /asm|R"/)) { read_code($0) }
     is_clang && !is_raw && /^#/ && index($0, "R\"") && begins_raw($0) { has_raw = has_code = 1 }
@@ -543,13 +588,14 @@ cck_judging='
         print found ? "" : "alone"
         text = ENVIRON["cck_scratch"] "/text"
         if (reason == "") {
-            if (is_clang) telling = telling "|R\"|" spaces
+            if (is_clang) telling = telling "|R\"|" instead "|" keyword "|" spaces
             reads_all = calls || is_assembler || ENVIRON["cck_extended"] != "" || !find_relevant(projects, telling)
             for (name in projects) if (reads_all || (path_of(name) in relevant)) read_file(name)
         }
         is_other = 1
-        if (reason == "" && (calls || is_assembler || (is_clang && (!is_c || pastes)))) {
-            reads_all = calls || is_assembler || !find_relevant(others, "R\"|" spaces)
+        if (reason == "" && (calls || is_assembler || is_clang)) {
+            telling = (is_c ? "" : "R\"|") instead "|" spaces
+            reads_all = calls || is_assembler || !find_relevant(others, telling)
             for (name in others) if (!(name in projects) && (reads_all || (path_of(name) in relevant))) read_file(name)
         }
         if (unread && is_assembler) reason = "header-test"
@@ -566,7 +612,7 @@ cck_judging='
         if (stands && is_macro(text)) reason = "header-test"
         else if (expands && is_macro(text)) shows_time = 1
         if (nesting > 0 || raw_end != "" || ((has_raw || has_names) && has_code)) reason = "assembler-include"
-        if (has_spaces && pastes) reason = "other-file"
+        if (has_spaces) reason = "other-file"
         if (is_clang) write_places()
         print shows_time ? "time-macro" : reason
         print doubts (asks ? " builtins" : "")
@@ -646,6 +692,9 @@ judge_arguments() {
     esac
     case $cck_preprocessed in
     *structive-interference-size*) cck_hidden=other-file ;;
+    esac
+    case $cck_is_clang$cck_preprocessed in
+    1*include_instead*|1*__is_identifier*|1*\\[uU]*) cck_hidden=other-file ;;
     esac
 }
 
