@@ -107,6 +107,10 @@ locate as
 cck_assembler=$cck_located
 locate "$cck_compiler"
 [ -z "$cck_doubtful" ] || cck_reason=variable
+# A shell reads options after this sign (crates/cck_cache/src/environment.rt tests none that is not UTF-8).
+case $PATH in
+*%*) cck_reason=variable ;;
+esac
 [ -n "$cck_located" ] || cck_reason=no-compiler
 # Files that the caller's mask closes for the caller can't be read again.
 case $(umask) in

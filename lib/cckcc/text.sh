@@ -29,7 +29,8 @@ preprocess_pedantic() {
 # has no -D and -U. In C++ it warns of what follows a literal and is a macro when it is read, and not a suffix, which shows in
 # no other way. clang also lists the headers that it passes over (-MD), and warns of nothing but time macros: with
 # -pedantic-errors other warnings, of which some are not of -pedantic, would be errors. It says that it builds or imports a
-# module, which no line of the text shows. What is on standard input is for the compiler.
+# module, which no line of the text shows; colours would stand between these words. What is on standard input is for the
+# compiler.
 preprocess() {
     cck_warnings='-fno-canonical-system-headers -Wno-pedantic'
     ! is_cplusplus || cck_warnings='-fno-canonical-system-headers -Wno-error=pedantic -Wliteral-suffix'
@@ -505,12 +506,13 @@ cck_reading='
 #
 # clang gives directories that are one the first of their names: of each other name it is written, as gcc does, that it is left
 # out (`read_search`). A file that it lists and did not enter was passed over by another name, unless no directive has that
-# name and it is a header of the system: then a test asks for it (`read_rule`, `write_places`). One of the project may be a
-# hard link to a file of the text, or become one. It enters a file for the macros that it defines itself and one for those of
-# the arguments, and then returns to the input. It names headers of gcc by way of its own directory. It assembles by itself, so
-# that a text is refused whose code for the assembler has other directives than some that read no file: its strings are put
-# together, and no macro, alternative or operand of it makes the name of a directive (`read_code`, `judge_code`), nor the name
-# of a symbol that the text gives freely (`names_freely`). Raw strings of C++ are passed over, from C++11 on; what may begin
+# name and it is a header of clang itself: then a test asks for it (`read_rule`, `write_places`). Another one may be a link to a
+# file of the text, or become one. It enters a file for the macros that it defines itself and one for those of the arguments,
+# and then returns to the input. It names headers of gcc by way of its own directory. It assembles by itself, so that a text is
+# refused whose code for the assembler has other directives than some that read no file: its strings are put together, and no
+# macro, alternative or operand of it makes the name of a directive, nor does what follows one of a section, after which clang
+# reads a word as a statement (`read_code`, `judge_code`), nor the name of a symbol that the text gives freely
+# (`names_freely`). Raw strings of C++ are passed over, from C++11 on; what may begin
 # one otherwise hides what is code, so that a text with it and such code is refused (`begins_raw`). So is one in which a quote
 # or a number near code may be read in another way, or a literal has the word of such code (`is_doubtful`), and a source in
 # which a directive goes on after a raw string over lines. A pragma takes effect when it preprocesses too, so that one that may
