@@ -1,11 +1,11 @@
 //! The tests of paths that must hold for a recorded key.
-ghost use Rattle.std.specs.Prelude.{◌≡◌, ◌++◌, Contains, IfOk, IsOkUnless, List, OnOk, map, true};
+ghost use Rattle.std.specs.Prelude.{◌≡◌, ◌++◌, IfOk, IsOkUnless, List, OnOk, map, true};
 ghost use Rattle.std.specs.Option.{option_map};
 ghost use Rattle.cck_cache_files.specs.Absence.{AreTestsAfterIfKnown, IsAbsence, IsLinked};
 ghost use Rattle.cck_cache_rules.specs.PathTest.{Directory, tests_of};
 ghost use Rattle.cck_cache_files.specs.PathStates.{KeepsStates};
 ghost use Rattle.cck_cache_text.specs.SearchList.{search_fields};
-ghost use Rattle.cck_cache_text.specs.Sets.{Adds, IsSetOf};
+ghost use Rattle.cck_cache_text.specs.Sets.{IsSetOf};
 ghost use Rattle.cck_include.specs.Marks as spec;
 ghost use Rattle.cck_include.specs.Marks.{Marks};
 ghost use Rattle.cck_path.specs.Bytes.{lists_of};
@@ -15,7 +15,7 @@ use crate::searched_paths::searched_tests;
 use crate::tests_at::tests_at;
 use crate::{LinkTests, PathStates, link_tests};
 use cck_cache_rules::{PathTest, Refusal};
-use cck_cache_text::{SearchList, absent_names, left_directories, system_names};
+use cck_cache_text::{SearchList, absent_names, add_copies, left_directories, system_names};
 use cck_digest::UtilError;
 use std::alloc::{AllocError, Global};
 use std::collections::BTreeSet;
@@ -93,20 +93,6 @@ pub fn absence_of<R: Files + AllocGlobal>(
     }
 }
 
-// Adds copies of these names.
-fn add_names(
-    alloc: Global,
-    names: &mut BTreeSet<Vec<u8>>,
-    others: &[Vec<u8>],
-) -> Result<(), AllocError>
-    ensures { OnOk result (Adds (Contains (lists_of others.now)) names.old names.new) }
-{
-    for name in others {
-        names.insert(name.to_vec(alloc)?)?;
-    }
-    Ok(())
-}
-
 // The names of what is named after the links on the way to it: the system headers; or, by a compiler that renames no header,
 // all files of the text and the directories that it searches. clang knows a directory by its inode, and calls it by the name
 // by which it came first.
@@ -122,8 +108,8 @@ fn linked_names(
         return system_names(alloc, preprocessed.text);
     }
     let mut names = preprocessed.text.names().clone()?;
-    add_names(alloc, &mut names, &search.directories)?;
-    add_names(alloc, &mut names, &search.duplicates)?;
+    add_copies(alloc, &mut names, &search.directories)?;
+    add_copies(alloc, &mut names, &search.duplicates)?;
     Ok(names)
 }
 

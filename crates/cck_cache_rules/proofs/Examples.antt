@@ -6,9 +6,9 @@ use Rattle.cck_include.specs.TimePart.{i64_bytes, u32_bytes}
 use Rattle.cck_cache_rules.specs.Age.{IsAbandoned}
 use Rattle.cck_cache_rules.specs.Checksum.{sums_of, words}
 use Rattle.cck_cache_rules.specs.FrontCoding.{front_coded}
-use Rattle.cck_cache_rules.specs.ObjectName.{is_inside, object_parts, tests_inside}
+use Rattle.cck_cache_rules.specs.ObjectName.{is_inside, object_parts, tests_inside, without_base}
 use Rattle.cck_cache_rules.specs.PathStatus.{status_bytes}
-use Rattle.cck_cache_rules.specs.PathTest.{Absent, File, Plain, Real, test_bytes, with_path}
+use Rattle.cck_cache_rules.specs.PathTest.{Absent, File, Plain, Real, test_bytes}
 use Rattle.cck_cache_rules.specs.Refusal.{IsRefusal}
 use Rattle.cck_cache_rules.specs.Removal.{IsRemovedCount}
 use Rattle.cck_cache_rules.specs.Size.{IsSize}
@@ -82,9 +82,12 @@ real_bytes_of : test_bytes (Real (codes "/i/x") (codes "/x")) ≡ codes "real " 
 unfolding length_bytes
 real_bytes_of = refl
 
--- the same test of another path leads to the same one
-real_moved : with_path (Real (codes "/i/x") (codes "/x")) (codes "/j/x") ≡ Real (codes "/j/x") (codes "/x")
-real_moved = refl
+-- a path of the base directory that leads there, and one that leads elsewhere
+real_inside : without_base (Some (codes "/b")) (Real (codes "/b/i/x") (codes "/b/x")) ≡ Real (codes "/i/x") (codes "./x")
+real_inside = refl
+
+real_outside : without_base (Some (codes "/b")) (Real (codes "/b/i/x") (codes "/x")) ≡ Real (codes "/i/x") (codes "/x")
+real_outside = refl
 
 plain_bytes : test_bytes (Plain (codes "/u/x")) ≡ codes "plain /u/x"
 plain_bytes = refl

@@ -1,6 +1,7 @@
 pub mod ArgumentLemmas
 mod BaseExamples
 pub mod BaseLemmas
+mod BaseTestLemmas
 mod ChecksumLemmas
 mod ContentLemmas
 mod DifferenceLemmas

@@ -99,3 +99,10 @@ outside_other path base other =
     let begins = (starts_is Decides-eqb (path ++ codes "/") (base ++ codes "/") (is_inside (Some base) path) refl).0 inside in
     let (rest, is) = front base path (drop (length (base ++ codes "/")) (path ++ codes "/")) begins in
     other rest is)
+
+-- a path inside is the base directory and what follows it
+pub of_inside : (base path : List ℕ) → is_inside (Some base) path ≡ true → path ≡ base ++ after_base (Some base) path
+of_inside base path inside =
+    let begins = (starts_is Decides-eqb (path ++ codes "/") (base ++ codes "/") (is_inside (Some base) path) refl).0 inside in
+    let (rest, is) = front base path (drop (length (base ++ codes "/")) (path ++ codes "/")) begins in
+    is ∙ ap (λ (r : List ℕ). base ++ r) (rest_of path base rest is)

@@ -1,5 +1,5 @@
 -- what is tested of a path, and the bytes of a test in an entry file
-use Rattle.std.specs.Prelude.{ℕ, List, ◌++◌, codes, map}
+use Rattle.std.specs.Prelude.{ℕ, List, [], ◌++◌, codes, map}
 use Rattle.cck_digest.specs.Frames.{length_bytes}
 use Rattle.cck_cache_rules.specs.Frames.{frame_before}
 use Rattle.cck_cache_rules.specs.declared.path_test.PathTest.{PathTest}
@@ -34,14 +34,23 @@ test_path (Searched path place) = path
 test_path (Plain path) = path
 test_path (Real path real) = path
 
--- the same test of another path
-abbrev pub with_path : Test → List ℕ → Test
-with_path (Absent path) other = Absent other
-with_path (File path) other = File other
-with_path (Directory path) other = Directory other
-with_path (Searched path place) other = Searched other place
-with_path (Plain path) other = Plain other
-with_path (Real path real) other = Real other real
+-- where the path leads, and nothing where that is not tested
+abbrev pub test_real : Test → List ℕ
+test_real (Absent path) = []
+test_real (File path) = []
+test_real (Directory path) = []
+test_real (Searched path place) = []
+test_real (Plain path) = []
+test_real (Real path real) = real
+
+-- the same test of another path, which leads to this one if that is tested
+abbrev pub with_path : Test → List ℕ → List ℕ → Test
+with_path (Absent path) other leads = Absent other
+with_path (File path) other leads = File other
+with_path (Directory path) other leads = Directory other
+with_path (Searched path place) other leads = Searched other place
+with_path (Plain path) other leads = Plain other
+with_path (Real path real) other leads = Real other leads
 
 -- the bytes of the test of a directory that is searched, by its place and its path
 abbrev pub searched_bytes : ℕ × List ℕ → List ℕ

@@ -1,7 +1,7 @@
 //! Laws about the definitions. Each is the contract of a function with an empty body.
 ghost use Rattle.std.specs.Prelude.{◌≡◌, ◌↔◌, IsTrue};
 ghost use Rattle.cck_cache_rules.specs.Checksum.{ChecksumTellsOneWord, ChecksumTellsTwoWords};
-ghost use Rattle.cck_cache_rules.specs.ObjectName.{MaterialTellsObject};
+ghost use Rattle.cck_cache_rules.specs.ObjectName.{MaterialTellsObject, WithoutBaseTellsTests};
 ghost use Rattle.cck_cache_rules.specs.PathTest.{test_of};
 
 use crate::PathTest;
@@ -21,6 +21,12 @@ pub fn checksum_tells_two_words()
 /// count is written before its bytes or items.
 pub fn material_tells_object()
     ensures { MaterialTellsObject }
+{}
+
+/// Two tests of paths that are those of one base directory or below it have one form without it in the name of an
+/// object only if they are the same. No real path begins with a dot.
+pub fn without_base_tells_tests()
+    ensures { WithoutBaseTellsTests }
 {}
 
 /// Two [`PathTest`]s are equal exactly if they are of one kind, and their paths and places are equal.

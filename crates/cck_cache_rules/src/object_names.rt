@@ -2,12 +2,12 @@
 ghost use Rattle.std.specs.Prelude.{◌≡◌, IfOk, IsOkUnless, MatchOption, Some, false, map, string_bytes, true};
 ghost use Rattle.std.specs.Option.{option_map};
 ghost use Rattle.cck_include.specs.Include.{Include, include_lent};
-ghost use Rattle.cck_cache_rules.specs.ObjectName.{after_base, digests_inside, digests_outside, is_inside, object_name, tests_inside, tests_outside};
+ghost use Rattle.cck_cache_rules.specs.ObjectName.{after_base, digests_inside, digests_outside, is_inside, object_name, real_after, tests_inside, tests_outside};
 ghost use Rattle.cck_cache_rules.specs.PathTest.{tests_of};
 ghost use Rattle.cck_cache_rules.specs.Reading.{byte_lists};
 
 use crate::front_coding::hash_front_coded;
-use crate::path_test::PathTest;
+use crate::path_test::{PathTest, joined};
 use cck_digest::{Digest, HashState, UtilError, hash_len_prefixed};
 use cck_include::IncludeRef;
 use cck_util::hash_text_list;
@@ -76,12 +76,22 @@ fn digest_groups<'a>(
     Ok(DigestGroups { outside, inside })
 }
 
+// A real path, with a dot in the place of the base directory if it is inside.
+fn real_after(alloc: Global, base: Option<&str>, real: &[u8]) -> Result<Vec<u8>, AllocError>
+    ensures { IfOk result (λ all. all.items ≡ real_after (option_map (λ b. b.now) base.entry) real.now) }
+{
+    match after_base(base, real) {
+        Some(rest) => joined(alloc, b".", rest),
+        None => real.to_vec(alloc),
+    }
+}
+
 // The bytes of tests in two groups.
 #[derive(Drop)]
 struct TestGroups {
     // Those of paths that are not those of the base directory and below it.
     outside: Vec<Vec<u8>>,
-    // Those of paths that are, without the base directory.
+    // Those of paths that are, without the base directory, also in the paths that these lead to.
     inside: Vec<Vec<u8>>,
 }
 
@@ -100,7 +110,10 @@ fn test_groups(
     let mut inside = Vec::new(alloc);
     for test in tests {
         match after_base(base, test.path()) {
-            Some(rest) => inside.push(test.write_with(alloc, rest)?)?,
+            Some(rest) => {
+                let real = real_after(alloc, base, test.real())?;
+                inside.push(test.write_with(alloc, rest, &real)?)?;
+            }
             None => outside.push(test.write(alloc)?)?,
         }
     }
@@ -116,7 +129,7 @@ fn test_groups(
 /// show a date.
 ///
 /// The files of the base directory are a group of their own, and so are the tests of paths there, which count
-/// without it. Those of two checkouts lie among the system's at other places, as their paths do, and have one
+/// without it, also where they lead. Those of two checkouts lie among the system's at other places, as their paths do, and have one
 /// order among themselves.
 ///
 /// The only error is [`UtilError::Memory`].

@@ -1,7 +1,7 @@
 //! What is tested of a path before an entry is used.
 ghost use Rattle.std.specs.Prelude.{◌≡◌, ◌++◌, IfOk};
 ghost use Rattle.std.specs.Option.{option_map};
-ghost use Rattle.cck_cache_rules.specs.PathTest.{real_bytes, searched_bytes, test_bytes, test_of, test_path, with_path};
+ghost use Rattle.cck_cache_rules.specs.PathTest.{real_bytes, searched_bytes, test_bytes, test_of, test_path, test_real, with_path};
 ghost use Rattle.cck_cache_rules.specs.Reading.{ReadsBack};
 
 use crate::frames::{number_bytes, push_frame, read_frame, read_number};
@@ -107,11 +107,26 @@ impl PathTest {
         }
     }
 
-    /// The bytes of the same test of another path.
+    /// The path that it leads to. Empty where that is not tested.
+    pub fn real(&self) -> &[u8]
+        ensures { result.now ≡ test_real (test_of self.now) }
+    {
+        match self {
+            PathTest::Real { real, .. } => real,
+            _ => b"",
+        }
+    }
+
+    /// The bytes of the same test of another path, which leads to this one if that is tested.
     ///
     /// The only error is lack of memory.
-    pub fn write_with(&self, alloc: Global, path: &[u8]) -> Result<Vec<u8>, AllocError>
-        ensures { IfOk result (λ bytes. bytes.items ≡ test_bytes (with_path (test_of self.now) path.now)) }
+    pub fn write_with(
+        &self,
+        alloc: Global,
+        path: &[u8],
+        leads_to: &[u8],
+    ) -> Result<Vec<u8>, AllocError>
+        ensures { IfOk result (λ bytes. bytes.items ≡ test_bytes (with_path (test_of self.now) path.now leads_to.now)) }
     {
         match self {
             PathTest::Absent(_) => joined(alloc, ABSENT, path),
@@ -123,9 +138,9 @@ impl PathTest {
                 Ok(bytes)
             }
             PathTest::Plain(_) => joined(alloc, PLAIN, path),
-            PathTest::Real { real, .. } => {
+            PathTest::Real { .. } => {
                 let mut bytes = REAL.to_vec(alloc)?;
-                push_frame(&mut bytes, real)?;
+                push_frame(&mut bytes, leads_to)?;
                 bytes.extend_from_slice(path)?;
                 Ok(bytes)
             }
@@ -138,7 +153,7 @@ impl PathTest {
     pub fn write(&self, alloc: Global) -> Result<Vec<u8>, AllocError>
         ensures { IfOk result (λ bytes. bytes.items ≡ test_bytes (test_of self.now)) }
     {
-        self.write_with(alloc, self.path())
+        self.write_with(alloc, self.path(), self.real())
     }
 
     /// The test that has these bytes. `None` where no test has.

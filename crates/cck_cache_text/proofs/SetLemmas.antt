@@ -159,14 +159,14 @@ adds_more P i old middle new first second =
 pub adds_none_below : (P : ℕ → List ℕ → Type 0) (old : BTreeSet (Vec ℕ)) → Adds (Below P 0) old old
 adds_none_below P old = adds_nothing (Below P 0) old (λ q none. omega (arith, none.1))
 
--- a set that began with nothing
-pub set_contains : (old new : BTreeSet (Vec ℕ)) (all : List (List ℕ)) (n : ℕ) → old.keys ≡ [] → n ≡ length all → Adds (Below (λ k q. q ≡ get_or all k []) n) old new → IsSetOf (Contains all) new
-set_contains old new all n none is adds q = (
+-- what was added to no keys
+pub set_added : (P : List ℕ → Type 0) (old new : BTreeSet (Vec ℕ)) → old.keys ≡ [] → Adds P old new → IsSetOf P new
+set_added P old new none adds q = (
   λ h. elim ((adds q).0 h) [
-    | inl at ↦ (at.0, omega (arith, is, at.1), get_or_default all at.0 q [] (omega (arith, is, at.1)) ∙ sym at.2)
+    | inl is ↦ is
     | inr before ↦ absurd (nothing (ap (list_any (λ k. bytes_eq q k.items)) (sym none) ∙ before))
   ],
-  λ at. (adds q).1 (inl (at.0, omega (arith, is, at.1), sym at.2 ∙ get_or_default all at.0 q [] at.1)),
+  λ is. (adds q).1 (inl is),
 )
   where
     nothing : false ≡ true → ⊥

@@ -6,7 +6,7 @@ ghost use Rattle.cck_include.specs.Marks.{Marks};
 ghost use Rattle.cck_cache_text.specs.Absent.{AreAbsentNames, AreAdded, IsBeforeDirectory, IsBeside, IsForName, IsListed, IsInDirectory, path_in, separator};
 ghost use Rattle.cck_cache_rules.specs.Reading.{ReadsBack, byte_lists};
 ghost use Rattle.cck_cache_text.specs.SearchList.{search_fields};
-ghost use Rattle.cck_cache_text.specs.Sets.{Adds, IsSetOf, has_key};
+ghost use Rattle.cck_cache_text.specs.Sets.{Adds, has_key};
 
 use crate::included::included_in;
 use crate::names::{MarkedText, Named};
@@ -51,6 +51,22 @@ pub fn add(paths: &mut BTreeSet<Vec<u8>>, path: Vec<u8>) -> Result<(), AllocErro
     ensures { OnOk result (Adds (λ absent. absent ≡ path.items) paths.old paths.new) }
 {
     paths.insert(path)?;
+    Ok(())
+}
+
+/// Adds copies of these paths.
+///
+/// The only error is lack of memory.
+pub fn add_copies(
+    alloc: Global,
+    paths: &mut BTreeSet<Vec<u8>>,
+    all: &[Vec<u8>],
+) -> Result<(), AllocError>
+    ensures { OnOk result (Adds (Contains (map (λ path. path.items) all.now)) paths.old paths.new) }
+{
+    for path in all {
+        add(paths, path.to_vec(alloc)?)?;
+    }
     Ok(())
 }
 
@@ -196,17 +212,6 @@ fn add_names(
     Ok(true)
 }
 
-// A set of these paths.
-fn set_of(alloc: Global, all: &[Vec<u8>]) -> Result<BTreeSet<Vec<u8>>, AllocError>
-    ensures { IfOk result (IsSetOf (Contains (map (λ path. path.items) all.now))) }
-{
-    let mut paths = BTreeSet::new(alloc);
-    for path in all {
-        add(&mut paths, path.to_vec(alloc)?)?;
-    }
-    Ok(paths)
-}
-
 /// The paths at which a header that this preprocessed text names would have been found earlier, in
 /// order: for each name in a directory of the list, that name in each directory before it in the list,
 /// and if the text or the arguments include a header of that name in quotes, in the directory of each
@@ -233,7 +238,8 @@ pub fn absent_names(
 {
     let named = text.named();
     let included = included_in(alloc, text.bytes(), arguments)?;
-    let mut paths = set_of(alloc, &search.missing)?;
+    let mut paths = BTreeSet::new(alloc);
+    add_copies(alloc, &mut paths, &search.missing)?;
     let listed = &search.directories;
     add_in(alloc, &mut paths, named, listed, b"stdc-predef.h")?;
     if add_names(alloc, &mut paths, named, &included.quoted, listed)? {

@@ -3,7 +3,8 @@
 //! All calls are on values: none reads a file.
 //!
 //! - [`SearchList`] is a compiler's list of directories for headers, as `gcc -v` prints it.
-//! - [`absent_names`] lists the paths at which a named header would have been found earlier.
+//! - [`absent_names`] lists the paths at which a named header would have been found earlier, and [`add_copies`] adds
+//!   others.
 //! - [`MarkedText`] is a preprocessed text with the files that it names, and [`system_names`] lists the system headers
 //!   among them.
 //! - [`looked_at_paths`] lists the paths at which a preprocessor looks for the headers that a text includes.
@@ -38,7 +39,7 @@ mod test_macro;
 mod test_name;
 mod tested_paths;
 
-pub use absent::absent_names;
+pub use absent::{absent_names, add_copies};
 pub use argument::may_ask_for_file;
 pub use dependency_pragma::has_dependency_pragma;
 pub use header_test::{HeaderTest, header_tests};
