@@ -23,7 +23,7 @@ wanted() {
     for name in cck cck_cache cck_explain cckcc; do echo "f 755 bin/$name"; done
     echo 'f 644 include/cck.h'
     for name in client command config miss programs rare recheck server size text; do echo "f 644 lib/cckcc/$name.sh"; done
-    echo 'f 644 lib/cckcc/connect.pl'
+    for name in assembler.awk connect.pl judge.awk sources.awk; do echo "f 644 lib/cckcc/$name"; done
     echo 'f 644 lib/libcck.a'
     echo 'f 644 lib/pkgconfig/cck.pc'
     for name in c++ cc g++ gcc; do echo "l 777 libexec/cckcc/$name"; done
