@@ -2,7 +2,7 @@
 use Rattle.std.proofs.Common.{◌≡◌, Some, codes, true, false, refl}
 use Rattle.cck_compiler.specs.declared.compiler.CCompilerKind.TheVariants.{Clang, Gcc}
 use Rattle.cck_cache.specs.Record.{Holds}
-use Rattle.cck_cache.specs.Request.{is_plusplus, kind_of}
+use Rattle.cck_cache.specs.Request.{is_plusplus, kind_of, programs_for}
 
 -- the second program decides, and not the name by which the compiler is called
 clang : kind_of (codes "/usr/bin/cc:/usr/lib/llvm-14/bin/clang:/lib/libc.so.6") ≡ Clang
@@ -16,6 +16,13 @@ clang_plusplus = refl
 
 one_program : is_plusplus (codes "/usr/bin/clang++") ≡ false
 one_program = refl
+
+-- gcc's program for C++ counts in C++ alone
+of_c : programs_for (codes "/usr/bin/gcc:/g/cc1:/g/cc1plus:/usr/bin/as") (codes "x.c") ≡ codes "/usr/bin/gcc:/g/cc1:/usr/bin/as"
+of_c = refl
+
+of_cplusplus : programs_for (codes "/usr/bin/gcc:/g/cc1:/g/cc1plus:/usr/bin/as") (codes "x.cc") ≡ codes "/usr/bin/gcc:/g/cc1:/g/cc1plus:/usr/bin/as"
+of_cplusplus = refl
 
 held : Holds (λ rule. rule ≡ codes "x.o: x.c") (Some (codes "x.o: x.c"))
 held = refl

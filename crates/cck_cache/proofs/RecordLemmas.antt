@@ -1,15 +1,17 @@
 -- the files of a text
-use Rattle.std.proofs.Common.{◌≡◌, ◌∙◌, ℕ, ℤ, inl, inr, int_eq, List, Bool, true, false, Option, Some, None, sym, ap, subst}
+use Rattle.std.proofs.Common.{◌≡◌, ◌∙◌, ◌++◌, ℕ, ℤ, inl, inr, int_eq, List, Bool, true, false, Option, Some, None, sym, ap, subst}
 use Rattle.std.proofs.lemmas.Bool.{false≢true}
 use Rattle.std.proofs.lemmas.Bool.Decides.{Decides-int_eq}
+use Rattle.std.proofs.lemmas.List.{map-append}
 use Rattle.std.specs.Global.{Vec}
 use Rattle.cck_cache_rules.specs.Base.{WordLists, word_lists}
 use Rattle.cck_cache_rules.specs.Text.{AreBases}
 use Rattle.cck_cache_rules.specs.declared.base.Words.{Words}
 use Rattle.cck_cache.proofs.InputLemmas.{calm_kept, calm_stays, without_fault}
+use Rattle.cck_cache_files.specs.RealPaths.{AreLinksOf}
 use Rattle.cck_cache_files.specs.TextCopies.{IsCopiesVerdict}
 use Rattle.cck_cache.specs.Input.{IsCalm, IsInput, NoFault}
-use Rattle.cck_cache.specs.Record.{AreFilesOf, AreGathered, HasPathTests, HasAskedTests, HasUnnamedTests, IsAdded, IsAsked, IsEntryOf, IsEntryVerdict, IsJudgedByReading, IsKept, IsLocalTime, IsOneDay, IsOutcome, IsOutcomeOver, IsRefusedOver, ObjectShowsBase, gathered_tests}
+use Rattle.cck_cache.specs.Record.{AreFilesOf, AreGathered, AreTested, HasPathTests, HasAskedTests, HasUnnamedTests, IsAdded, IsAsked, IsEntryOf, IsEntryVerdict, IsJudgedByReading, IsKept, IsLocalTime, IsOneDay, IsOutcome, IsOutcomeOver, IsRefusedOver, IsSeen, IsSeenWith, ObjectShowsBase, renames_headers}
 use Rattle.cck_cache.specs.Request.{IsRequest, request_words}
 use Rattle.cck_cache.specs.declared.environment.Environment.{Environment}
 use Rattle.cck_cache.specs.declared.record.Added.{Added}
@@ -18,7 +20,10 @@ use Rattle.cck_cache.specs.declared.record.EntryVerdict.TheVariants.{Added as Ha
 use Rattle.cck_cache.specs.declared.record.Gathered.{Gathered}
 use Rattle.cck_cache.specs.declared.record.Outcome.{Outcome}
 use Rattle.cck_cache.specs.declared.record.Outcome.TheVariants.{Recorded, Refused}
-use Rattle.cck_cache_rules.specs.PathTest.{Test, tests_of}
+use Rattle.cck_cache.specs.declared.record.Seen.{Seen}
+use Rattle.cck_cache.specs.declared.record.Seen.TheVariants.{Files, Refused as NotSeen}
+use Rattle.cck_cache_rules.specs.PathTest.{Test, test_of, tests_of}
+use Rattle.cck_cache_rules.specs.declared.path_test.PathTest.{PathTest}
 use Rattle.cck_cache_rules.specs.declared.object_file.ObjectFile.{ObjectFile}
 use Rattle.cck_cache_rules.specs.declared.refusal.Refusal.{Refusal}
 use Rattle.cck_cache_files.specs.Snapshot.{ArePut, SnapshotGrows, IsNamedFile}
@@ -61,11 +66,42 @@ calm_grown text cwd before after grew =
     let list = has_one_list true text in
     calm_stays before after (grew list.0 list.1).calm
 
--- what was gathered over files that a call kept
-pub gathered_over : (request : Request) (since : Moment) (printed text : Bytes) (files new : FileMap) (made asked others : List Test) → new ≡ files → AreFilesOf request text files → IsCopiesVerdict files request text false → HasPathTests request since printed text made → HasAskedTests request since printed text files asked
-    → HasUnnamedTests request since printed text files others → AreGathered request since printed text new made asked others
-gathered_over request since printed text files new made asked others same are no_copies path_tests tested unnamed =
-    subst (λ (m : FileMap). AreGathered request since printed text m made asked others) (sym same) (record { are_files = are; no_copies = no_copies; path_tests = path_tests; tested = tested; unnamed = unnamed })
+-- what was tested over files that a call kept
+pub tested_over : (request : Request) (since : Moment) (printed text : Bytes) (files new : FileMap) (made asked others tests : List Test) → new ≡ files → AreFilesOf request text files → IsCopiesVerdict files request text false → HasPathTests request since printed text made
+    → HasAskedTests request since printed text files asked → HasUnnamedTests request since printed text files others → tests ≡ (made ++ asked) ++ others → AreTested request since printed text new tests
+tested_over request since printed text files new made asked others tests same are no_copies path_tests tested unnamed is =
+    subst (λ (m : FileMap). AreTested request since printed text m tests) (sym same) (record {
+      are_files = are;
+      no_copies = no_copies;
+      made = made;
+      path_tests = path_tests;
+      asked = asked;
+      tested = tested;
+      others = others;
+      unnamed = unnamed;
+      tests_are = is;
+    })
+
+-- tests of three lists
+pub three_lists : (made asked others both all : List PathTest) → both ≡ made ++ asked → all ≡ both ++ others → tests_of all ≡ (tests_of made ++ tests_of asked) ++ tests_of others
+three_lists made asked others both all first second =
+    ap tests_of second ∙ (map-append test_of both others ∙ ap (λ (ts : List Test). ts ++ tests_of others) (ap tests_of first ∙ map-append test_of made asked))
+
+-- what was seen over the files that were tested
+pub seen_over : (request : Request) (since : Moment) (printed text : Bytes) (renames : Bool) (files : FileState) (tests : List Test) (seen : Seen) → renames ≡ renames_headers request → IsCalm files → AreTested request since printed text files.files tests
+    → IsSeenWith renames files tests seen → IsSeen request since printed text seen
+seen_over request since printed text renames files tests (Files gathered) renamed calm are is = (
+  record {
+    first = tests;
+    are_tested = subst (λ (s : FileState). AreTested request since printed text s.files tests) (sym is.0) are;
+    links = is.1.0;
+    are_links = subst (λ (r : Bool). AreLinksOf r tests is.1.0) renamed is.1.1;
+    tests_are = is.1.2;
+  },
+  subst IsCalm (sym is.0) calm,
+)
+seen_over request since printed text renames files tests (NotSeen refusal) renamed calm are is =
+    inr (inr (inr (inr (record { files = files.files; tests = tests; are_tested = are; renames = sym renamed ∙ is.1.0; absent = is.1.1; is_named = is.0 }))))
 
 -- a base directory is shown by an object file, so there is one
 pub some_shows : (bases : List Bytes) (o : Option ObjectFile) → ObjectShowsBase bases o → (object : ObjectFile) × ObjectShowsBase bases (Some object)
@@ -102,7 +138,7 @@ refused_over environment request compilation text doubtful files refusal asked i
 
 -- the outcome of what a recording over files adds
 pub outcome_over : (environment : Environment) (request : Request) (compilation : Compilation) (text : Bytes) (gathered : Gathered) (asked : SnapshotRequest) (bases : List Bytes) (added : Added) (outcome : Outcome) → IsAsked environment request compilation text asked
-    → AreBases (request_words request) text bases → IsAdded environment asked compilation text gathered.files.files added → IsKept request bases added (gathered_tests gathered) outcome → gathered.is_doubtful ≡ false → IsOutcomeOver environment request compilation text gathered outcome
+    → AreBases (request_words request) text bases → IsAdded environment asked compilation text gathered.files.files added → IsKept request bases added (tests_of gathered.tests.items) outcome → gathered.is_doubtful ≡ false → IsOutcomeOver environment request compilation text gathered outcome
 outcome_over environment request compilation text gathered asked bases added (Recorded name) is_asked are is is_name settled = (
   settled,
   record {
@@ -130,7 +166,7 @@ refused_entry environment request compilation text gathered words bases lent ver
 -- the outcome of what is added by a recording over the files that were gathered
 pub added_outcome : (environment : Environment) (request : Request) (compilation : Compilation) (text : Bytes) (gathered : Gathered) (words : Words) (bases : Vec (Vec ℕ)) (lent again : List (Vec ℕ)) (verdict : EntryVerdict) (added : Added) (outcome : Outcome)
     → word_lists words ≡ request_words request → AreBases (word_lists words) text (lists_of bases.items) → lent ≡ bases.items → again ≡ bases.items → verdict ≡ HasEntry added
-    → (IsCalm gathered.files → IsEntryOf environment request compilation (lists_of lent) text gathered.files.files verdict) → gathered.is_doubtful ≡ false → IsKept request (lists_of again) added (gathered_tests gathered) outcome → IsCalm gathered.files → IsOutcomeOver environment request compilation text gathered outcome
+    → (IsCalm gathered.files → IsEntryOf environment request compilation (lists_of lent) text gathered.files.files verdict) → gathered.is_doubtful ≡ false → IsKept request (lists_of again) added (tests_of gathered.tests.items) outcome → IsCalm gathered.files → IsOutcomeOver environment request compilation text gathered outcome
 added_outcome environment request compilation text gathered words bases lent again verdict added outcome same are is once_more found entry settled kept calm =
     let of_added = subst (λ (v : EntryVerdict). IsEntryOf environment request compilation (lists_of lent) text gathered.files.files v) found (entry calm) in
     outcome_over environment request compilation text gathered of_added.asked (lists_of again) added outcome (asked_of environment request compilation text words bases lent of_added.asked same are is of_added.is_request) (bases_lent request text words bases again same are once_more)
@@ -147,7 +183,7 @@ recorded_over asked text before mid after recording put calm first second is rec
 
 -- an outcome over the files that were gathered is the outcome
 pub outcome_all : (environment : Environment) (request : Request) (compilation : Compilation) (printed text : Bytes) (gathered : Gathered) (outcome : Outcome) → IsJudgedByReading request text compilation.made None
-    → AreGathered request compilation.since printed text gathered.files.files (tests_of gathered.tests.items) (tests_of gathered.asked_tests.items) (tests_of gathered.unnamed_tests.items) → IsOutcomeOver environment request compilation text gathered outcome → IsOutcome environment request compilation text outcome
-outcome_all environment request compilation printed text gathered (Recorded name) alone are is = (alone, (printed, gathered.files.files, tests_of gathered.tests.items, tests_of gathered.asked_tests.items, tests_of gathered.unnamed_tests.items, are, is.1))
+    → AreGathered request compilation.since printed text gathered.files.files (tests_of gathered.tests.items) → IsOutcomeOver environment request compilation text gathered outcome → IsOutcome environment request compilation text outcome
+outcome_all environment request compilation printed text gathered (Recorded name) alone are is = (alone, (printed, gathered.files.files, tests_of gathered.tests.items, are, is.1))
 outcome_all environment request compilation printed text gathered (Refused refusal) alone are is =
-    inr (inr (printed, gathered.is_doubtful, gathered.files.files, tests_of gathered.tests.items, tests_of gathered.asked_tests.items, tests_of gathered.unnamed_tests.items, are, is))
+    inr (inr (printed, gathered.is_doubtful, gathered.files.files, tests_of gathered.tests.items, are, is))

@@ -5,6 +5,7 @@ use Rattle.std.specs.declared.alloc.Global.{Global}
 use Rattle.cck_cache_rules.specs.Shown.{ShowsBase}
 use Rattle.cck_cache_rules.specs.Text.{AreBases}
 use Rattle.cck_cache_files.specs.Absence.{AreTestsOf, IsRefusedByPath}
+use Rattle.cck_cache_files.specs.RealPaths.{AreLinksOf, HasAbsent}
 use Rattle.cck_cache_files.specs.TextCopies.{IsCopiesVerdict}
 use Rattle.cck_cache.specs.Input.{IsCalm, IsInput, NoFault}
 use Rattle.cck_cache.specs.Naming.{IsNameIn}
@@ -38,6 +39,7 @@ use Rattle.cck_cache_options.specs.declared.task.Compilation.{Compilation}
 use Rattle.cck_cache_options.specs.declared.task.Made.{Made}
 use Rattle.cck_hasher.specs.declared.hasher.opening.PreprocessorKey.{PreprocessorKey}
 use Rattle.cck_files.specs.FileMap.{FileMap}
+use Rattle.cck_files.specs.FileState.{FileState}
 use Rattle.cck_include.specs.Marks.{Mark, Marks}
 use Rattle.cck_path.specs.Bytes.{Bytes, lists_of}
 use Rattle.cck_path.specs.Timestamp.{Moment}
@@ -99,13 +101,25 @@ pub record HasUnnamedTests (request : Request) (since : Moment) (printed text : 
   pub tests_are : AreUnnamedTests states files request.directory.now text (lists_of request.arguments.items) printed tests
 
 -- Files that were gathered for a text, of which no two are copies. No path at which a header would have been found earlier, or at which a source looks for one, is in doubt, nor is
--- one at which a header of the text is looked for and which the text does not name. The tests of an entry are the first, the second and the others.
-pub record AreGathered (request : Request) (since : Moment) (printed text : Bytes) (files : FileMap) (made asked others : List Test) : Type 0 where
+-- one at which a header of the text is looked for and which the text does not name: these are the tests of all.
+pub record AreTested (request : Request) (since : Moment) (printed text : Bytes) (files : FileMap) (tests : List Test) : Type 0 where
   pub are_files : AreFilesOf request text files
   pub no_copies : IsCopiesVerdict files request text false
+  pub made : List Test
   pub path_tests : HasPathTests request since printed text made
+  pub asked : List Test
   pub tested : HasAskedTests request since printed text files asked
+  pub others : List Test
   pub unnamed : HasUnnamedTests request since printed text files others
+  pub tests_are : tests ≡ (made ++ asked) ++ others
+
+-- These tests are of such files, and after them those of where the directories of absent paths lead, by a compiler that renames no header.
+pub record AreGathered (request : Request) (since : Moment) (printed text : Bytes) (files : FileMap) (tests : List Test) : Type 0 where
+  pub first : List Test
+  pub are_tested : AreTested request since printed text files first
+  pub links : List Test
+  pub are_links : AreLinksOf (renames_headers request) first links
+  pub tests_are : tests ≡ first ++ links
 
 -- a path keeps a compilation from being recorded
 pub record HasPathRefusal (request : Request) (since : Moment) (printed text : Bytes) (refusal : Refusal) : Type 0 where
@@ -134,17 +148,32 @@ pub record HasCopiesRefusal (request : Request) (text : Bytes) (refusal : Refusa
   pub found : IsCopiesVerdict files request text true
   pub is_other : refusal ≡ OtherFile
 
--- why a compilation is not recorded by its text: what a source asks for, two copies, or a path
+-- it is not known where a link leads on the way to a path at which there is nothing
+pub record HasLinkRefusal (request : Request) (since : Moment) (printed text : Bytes) (refusal : Refusal) : Type 0 where
+  pub files : FileMap
+  pub tests : List Test
+  pub are_tested : AreTested request since printed text files tests
+  pub renames : renames_headers request ≡ false
+  pub absent : HasAbsent tests
+  pub is_named : refusal ≡ NamedFile
+
+-- What was gathered over these files, with these tests and those of links; or it is not known where one leads
+abbrev pub IsSeenWith : Bool → FileState → List Test → Seen → Type 0
+IsSeenWith renames files tests (Files gathered) =
+    (gathered.files ≡ files) × ((links : List Test) × AreLinksOf renames tests links × (tests_of gathered.tests.items ≡ tests ++ links))
+IsSeenWith renames files tests (NotSeen refusal) = (refusal ≡ NamedFile) × ((renames ≡ false) × HasAbsent tests)
+
+-- why a compilation is not recorded by its text: what a source asks for, two copies, a path or a link
 abbrev pub IsRefusedByText : Request → Moment → Bytes → Bytes → Refusal → Type 0
 IsRefusedByText request since printed text refusal =
     HasSourceRefusal request since printed text refusal
-    ⊎ (HasPathRefusal request since printed text refusal ⊎ (HasUnnamedRefusal request since printed text refusal ⊎ HasCopiesRefusal request text refusal))
+    ⊎ (HasPathRefusal request since printed text refusal
+    ⊎ (HasUnnamedRefusal request since printed text refusal ⊎ (HasCopiesRefusal request text refusal ⊎ HasLinkRefusal request since printed text refusal)))
 
 -- what a recording looks at, by what the compiler printed of its directories
 abbrev pub IsSeen : Request → Moment → Bytes → Bytes → Seen → Type 0
 IsSeen request since printed text (Files gathered) =
-    AreGathered request since printed text gathered.files.files (tests_of gathered.tests.items) (tests_of gathered.asked_tests.items) (tests_of gathered.unnamed_tests.items)
-    × IsCalm gathered.files
+    AreGathered request since printed text gathered.files.files (tests_of gathered.tests.items) × IsCalm gathered.files
 IsSeen request since printed text (NotSeen refusal) = IsRefusedByText request since printed text refusal
 
 -- the same by what it may have printed
@@ -260,14 +289,10 @@ IsRefusedOver environment request compilation text doubtful files refusal =
     IsRefusedByInput environment request compilation text files refusal
     ⊎ (((refusal ≡ NamedFile) × ((doubtful ≡ true) ⊎ RecordsNoEntry environment request compilation text files)) ⊎ ShowsBaseOf request text refusal)
 
--- the tests of an entry, of what was gathered
-abbrev pub gathered_tests : Gathered → List Test
-gathered_tests gathered = (tests_of gathered.tests.items ++ tests_of gathered.asked_tests.items) ++ tests_of gathered.unnamed_tests.items
-
 abbrev pub IsOutcomeOver : Environment → Request → Compilation → Bytes → Gathered → Outcome → Type 0
 IsOutcomeOver environment request compilation text gathered (Recorded name) =
     (gathered.is_doubtful ≡ false)
-    × IsRecordedOver environment request compilation text gathered.files.files (gathered_tests gathered) name
+    × IsRecordedOver environment request compilation text gathered.files.files (tests_of gathered.tests.items) name
 IsOutcomeOver environment request compilation text gathered (Refused refusal) =
     IsRefusedOver environment request compilation text gathered.is_doubtful gathered.files.files refusal
 
@@ -275,9 +300,9 @@ IsOutcomeOver environment request compilation text gathered (Refused refusal) =
 abbrev pub IsOutcome : Environment → Request → Compilation → Bytes → Outcome → Type 0
 IsOutcome environment request compilation text (Recorded name) =
     IsJudgedByReading request text compilation.made None
-    × ((printed : Bytes) × (files : FileMap) × (made asked others : List Test) × AreGathered request compilation.since printed text files made asked others × IsRecordedOver environment request compilation text files ((made ++ asked) ++ others) name)
+    × ((printed : Bytes) × (files : FileMap) × (tests : List Test) × AreGathered request compilation.since printed text files tests × IsRecordedOver environment request compilation text files tests name)
 IsOutcome environment request compilation text (Refused refusal) =
     IsJudgedByReading request text compilation.made (Some refusal)
     ⊎ (((printed : Bytes) × IsRefusedByText request compilation.since printed text refusal)
-    ⊎ ((printed : Bytes) × (doubtful : Bool) × (files : FileMap) × (made asked others : List Test) × AreGathered request compilation.since printed text files made asked others
+    ⊎ ((printed : Bytes) × (doubtful : Bool) × (files : FileMap) × (tests : List Test) × AreGathered request compilation.since printed text files tests
     × IsRefusedOver environment request compilation text doubtful files refusal))

@@ -2,7 +2,7 @@
 ghost use Rattle.std.specs.Prelude.{◌≡◌, ◌++◌, ◌||◌, ◌↔◌, IfOk, IfSome, IsTrue, List, MatchOption, OnOk, Some};
 ghost use Rattle.std.specs.Option.{option_map, option_or};
 ghost use Rattle.cck_cache.specs.Input.{IsCalm};
-ghost use Rattle.cck_cache.specs.Record.{HasNoLocalTime, Holds, IsEntryOf, IsEntryVerdict, IsInputVerdict, IsJudgedByReading, IsJudgedByRules, IsKept, IsLocalTime, IsOneDay, IsOutcome, IsOutcomeOver, IsRefusedByBase, IsSeen, IsSeenBySome, ObjectShowsBase, gathered_tests, recorded_fields, renames_headers};
+ghost use Rattle.cck_cache.specs.Record.{HasNoLocalTime, Holds, IsEntryOf, IsEntryVerdict, IsInputVerdict, IsJudgedByReading, IsJudgedByRules, IsKept, IsLocalTime, IsOneDay, IsOutcome, IsOutcomeOver, IsRefusedByBase, IsSeen, IsSeenBySome, IsSeenWith, ObjectShowsBase, recorded_fields, renames_headers};
 ghost use Rattle.cck_cache_files.specs.PathStatuses.{AreStatusesBefore};
 ghost use Rattle.cck_cache_rules.specs.PathStatus.{Status, statuses_of};
 ghost use Rattle.cck_cache_rules.specs.Files.{entry_fields};
@@ -26,7 +26,7 @@ use c_cache_keys::{
 use cck_cache_files::{
     Absence, Kind, PathStates, Preprocessed, Request, StoreDirectory, Tested, TextStatuses,
     Unnamed, absence_of, add_directory_statuses, add_named_files, all_tests, compared_paths,
-    entry_name, may_have_copies, tested_by, text_statuses, unnamed_by,
+    entry_name, links_of, may_have_copies, tested_by, text_statuses, unnamed_by,
 };
 use cck_cache_options::{Compilation, Made};
 use cck_cache_rules::{
@@ -88,10 +88,6 @@ struct Gathered {
     is_doubtful: bool,
     // The tests of paths that must hold.
     tests: Vec<PathTest>,
-    // The tests of the paths at which the sources look for headers.
-    asked_tests: Vec<PathTest>,
-    // The tests of the paths at which headers are looked for, and which the text does not name.
-    unnamed_tests: Vec<PathTest>,
 }
 
 // What a recording looks at.
@@ -123,24 +119,37 @@ fn gathered_of(
     found: TextStatuses,
     is_doubtful: bool,
     tests: Vec<PathTest>,
-    asked_tests: Vec<PathTest>,
-    unnamed_tests: Vec<PathTest>,
 ) -> Gathered
     ensures files { result.files ≡ files }
     ensures statuses { result.statuses ≡ found.statuses }
     ensures doubtful { result.is_doubtful ≡ (is_doubtful || found.is_doubtful) }
     ensures tests { result.tests ≡ tests }
-    ensures asked { result.asked_tests ≡ asked_tests }
-    ensures unnamed { result.unnamed_tests ≡ unnamed_tests }
 {
     Gathered {
         files,
         statuses: found.statuses,
         is_doubtful: is_doubtful || found.is_doubtful,
         tests,
-        asked_tests,
-        unnamed_tests,
     }
+}
+
+// What was gathered over these files, with these tests, and after them those of the links to directories in which nothing was
+// found. The compilation is not recorded where it is not known where one leads.
+fn seen_with<R: Files + AllocGlobal>(
+    rt: &R,
+    preprocessed: &Preprocessed<'_>,
+    files: MapFiles,
+    is_doubtful: bool,
+    tests: Vec<PathTest>,
+) -> Result<Seen>
+    ensures { IfOk result (IsSeenWith preprocessed.now.renames files (tests_of tests.items)) }
+{
+    let Some(links) = links_of(rt, &tests, preprocessed.renames)? else {
+        return Ok(Seen::Refused(Refusal::NamedFile));
+    };
+    let found = statuses_by(rt, preprocessed)?;
+    let tests = all_tests(tests, links)?;
+    Ok(Seen::Files(gathered_of(files, found, is_doubtful, tests)))
 }
 
 // Reads the input and the files that a text names, and lists the tests of paths that must hold; or finds
@@ -172,15 +181,8 @@ fn see_by<R: Files + AllocGlobal>(rt: &R, preprocessed: &Preprocessed<'_>) -> Re
     match others {
         Unnamed::Refused(cause) => Ok(Seen::Refused(cause)),
         Unnamed::Tests(unnamed_tests) => {
-            let found = statuses_by(rt, preprocessed)?;
-            Ok(Seen::Files(gathered_of(
-                files,
-                found,
-                is_doubtful,
-                tests,
-                asked_tests,
-                unnamed_tests,
-            )))
+            let tests = all_tests(all_tests(tests, asked_tests)?, unnamed_tests)?;
+            seen_with(rt, preprocessed, files, is_doubtful, tests)
         }
     }
 }
@@ -473,24 +475,19 @@ fn entry_file_of(entry: RecordedEntry, statuses: Vec<PathStatus>, tests: Vec<Pat
     }
 }
 
-// The entry file of what was recorded, with these tests, one list after the other. It has these statuses, and
-// those of the directories of absent paths in which no name came or went at this time or later.
+// The entry file of what was recorded, with these tests. It has these statuses, and those of the directories of absent paths
+// in which no name came or went at this time or later.
 fn entry_file_with<R: Files + AllocGlobal>(
     rt: &R,
     since: Timestamp,
     entry: RecordedEntry,
     statuses: Vec<PathStatus>,
-    made: Vec<PathTest>,
-    asked: Vec<PathTest>,
-    others: Vec<PathTest>,
+    tests: Vec<PathTest>,
 ) -> Result<EntryFile, AllocError>
     ensures { IfOk result (λ file. (own : List Status)
         × (AreStatusesBefore since (statuses_of statuses.items) → AreStatusesBefore since own)
-        × (entry_fields file ≡ recorded_fields entry own
-        ((tests_of made.items ++ tests_of asked.items) ++ tests_of others.items))) }
+        × (entry_fields file ≡ recorded_fields entry own (tests_of tests.items))) }
 {
-    let tests = all_tests(made, asked)?;
-    let tests = all_tests(tests, others)?;
     let mut statuses = statuses;
     add_directory_statuses(rt, &mut statuses, since, &tests)?;
     Ok(entry_file_of(entry, statuses, tests))
@@ -568,7 +565,7 @@ fn record_added<R: Files + AllocGlobal>(
     gathered: Gathered,
 ) -> Result<Outcome>
     ensures { IfOk result
-        (IsKept request.now (lists_of bases.now) added (gathered_tests gathered)) }
+        (IsKept request.now (lists_of bases.now) added (tests_of gathered.tests.items)) }
 {
     let Added { own, key, entry } = added;
     let file = entry_file_with(
@@ -577,8 +574,6 @@ fn record_added<R: Files + AllocGlobal>(
         entry,
         gathered.statuses,
         gathered.tests,
-        gathered.asked_tests,
-        gathered.unnamed_tests,
     )?;
     let input = own.input_digest.as_str();
     let name = name_in(

@@ -1,11 +1,11 @@
 -- Tests of the links on the way to files.
-use Rattle.std.proofs.Common.{◌≡◌, ◌∙◌, ◌⊎◌, inl, inr, List, [], ◌∷◌, ◌++◌, Contains, length, sym, ap, subst, arith}
-use Rattle.std.proofs.lemmas.List.{map-append}
+use Rattle.std.proofs.Common.{◌≡◌, ◌∙◌, ◌⊎◌, ◌<◌, ◌≤◌, ◌+◌, ℕ, inl, inr, List, [], ◌∷◌, ◌++◌, Contains, get_or, length, take, refl, sym, ap, subst, arith}
+use Rattle.std.proofs.lemmas.List.{get_or-map, length-map, map-append, take_all, take_more}
 use Rattle.std.proofs.lemmas.List.Elements.{Contains-append_left, Contains-push, Contains-push_cases}
-use Rattle.cck_cache_rules.specs.PathTest.{Test, Plain, Real, test_of, tests_of}
+use Rattle.cck_cache_rules.specs.PathTest.{Test, Absent, Plain, Real, test_of, test_path, tests_of}
 use Rattle.cck_cache_rules.specs.declared.path_test.PathTest.{PathTest}
 use Rattle.cck_cache_text.specs.Names.{directory_of}
-use Rattle.cck_cache_files.specs.RealPaths.{ArePlaced, GainsPlace, GainsReal, HasReal, IsPlaced}
+use Rattle.cck_cache_files.specs.RealPaths.{AreAbsentLinks, ArePlaced, GainsLink, GainsPlace, GainsReal, HasReal, IsPlaced}
 use Rattle.cck_cache_files.specs.declared.real_paths.LinkTests.{LinkTests}
 use Rattle.cck_path.specs.Bytes.{Bytes}
 
@@ -104,3 +104,54 @@ none_placed P tests none no_plain no_real = record {
   only_plain = λ test at. absurd (nothing_in (tests_of tests.plain.items) test (ap tests_of no_plain) at);
   only_real = λ test at. absurd (nothing_in (tests_of tests.real.items) test (ap tests_of no_real) at);
 }
+
+-- ---- the directories of absent paths
+
+pub link_gained : (old new : List Test) (absent : Test) (path : Bytes) → absent ≡ Absent path → GainsReal old (directory_of path) new → GainsLink old absent new
+link_gained old new absent path is gains = record {
+  kept = gains.kept;
+  gained = λ other same. subst (λ (p : Bytes). HasReal new (directory_of p)) (ap test_path (sym is ∙ same)) gains.gained;
+  only = λ test at. elim (gains.only test at) [
+    | inl before ↦ inl before
+    | inr more ↦ inr (path, more.0, is, more.1)
+  ];
+}
+
+pub no_link : (list : List Test) (other : Test) → ((path : Bytes) → other ≡ Absent path → ⊥) → GainsLink list other list
+no_link list other none = record { kept = λ test at. at; gained = λ path is. absurd (none path is); only = λ test at. inl at }
+
+-- no tests
+pub none_linked : (links : List Test) → links ≡ [] → AreAbsentLinks [] links
+none_linked links none = record {
+  each = λ path at. absurd (nothing_in [] (Absent path) refl at);
+  only = λ test at. absurd (nothing_in links test none at);
+}
+
+-- one more test
+more_linked : (tests old new : List Test) (test : Test) → GainsLink old test new → AreAbsentLinks tests old → AreAbsentLinks (tests ++ test ∷ []) new
+more_linked tests old new test gains are = record {
+  each = λ path at. elim (Contains-push_cases tests test (Absent path) at) [
+    | inl before ↦ (let has = are.each path before in (has.0, gains.kept (Real (directory_of path) has.0) has.1))
+    | inr same ↦ gains.gained path same
+  ];
+  only = λ link at. elim (gains.only link at) [
+    | inl before ↦ (let from = are.only link before in (from.0, from.1, Contains-append_left tests (test ∷ []) (Absent from.0) from.2, from.3))
+    | inr more ↦ (more.0, more.1, subst (λ (t : Test). Contains (tests ++ test ∷ []) t) more.2 (Contains-push tests test), more.3)
+  ];
+}
+
+pub next_linked : (tests : List PathTest) (i : ℕ) (test : PathTest) (old new : List Test) → i < length tests → test ≡ get_or tests i test → GainsLink old (test_of test) new
+    → AreAbsentLinks (tests_of (take i tests)) old → AreAbsentLinks (tests_of (take (i + 1) tests)) new
+next_linked tests i test old new within is gains are =
+    let taken : tests_of (take (i + 1) tests) ≡ tests_of (take i tests) ++ test_of test ∷ [] =
+    ap tests_of (take_more tests i test within) ∙ (map-append test_of (take i tests) (get_or tests i test ∷ []) ∙ ap (λ (t : PathTest). tests_of (take i tests) ++ test_of t ∷ []) (sym is))
+    in
+    subst (λ (ts : List Test). AreAbsentLinks ts new) (sym taken) (more_linked (tests_of (take i tests)) old new (test_of test) gains are)
+
+pub all_linked_absent : (tests : List PathTest) (n : ℕ) (links : List Test) → length tests ≤ n → AreAbsentLinks (tests_of (take n tests)) links → AreAbsentLinks (tests_of tests) links
+all_linked_absent tests n links all are = subst (λ (ts : List PathTest). AreAbsentLinks (tests_of ts) links) (take_all n tests all) are
+
+-- the test at a place
+pub test_contained : (tests : List PathTest) (i : ℕ) (test : PathTest) (is : Test) → i < length tests → test ≡ get_or tests i test → test_of test ≡ is → Contains (tests_of tests) is
+test_contained tests i test is within at same =
+    (i, omega (arith, within, length-map tests test_of), get_or-map test_of tests i test is within ∙ (ap test_of (sym at) ∙ same))

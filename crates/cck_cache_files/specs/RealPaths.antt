@@ -1,6 +1,6 @@
 -- tests of the links on the way to files
-use Rattle.std.specs.Prelude.{◌≡◌, ◌⊎◌, List, Contains}
-use Rattle.cck_cache_rules.specs.PathTest.{Test, Plain, Real, tests_of}
+use Rattle.std.specs.Prelude.{◌≡◌, ◌⊎◌, Bool, true, false, List, [], Contains}
+use Rattle.cck_cache_rules.specs.PathTest.{Test, Absent, Plain, Real, tests_of}
 use Rattle.cck_cache_text.specs.Names.{directory_of}
 use Rattle.cck_cache_files.specs.declared.real_paths.LinkTests.{LinkTests}
 use Rattle.cck_path.specs.Bytes.{Bytes}
@@ -41,3 +41,22 @@ pub record GainsPlace (old : LinkTests) (path : Bytes) (new : LinkTests) : Type 
   pub gained : IsPlaced new path
   pub only_plain : (test : Test) → Contains (tests_of new.plain.items) test → Contains (tests_of old.plain.items) test ⊎ (test ≡ Plain path)
   pub only_real : (test : Test) → Contains (tests_of new.real.items) test → Contains (tests_of old.real.items) test ⊎ IsRealOf path test
+
+-- a list has the tests that it had; and if nothing is at a path by this test, one of where the directory of the path leads, and no other
+pub record GainsLink (old : List Test) (absent : Test) (new : List Test) : Type 0 where
+  pub kept : (test : Test) → Contains old test → Contains new test
+  pub gained : (path : Bytes) → absent ≡ Absent path → HasReal new (directory_of path)
+  pub only : (test : Test) → Contains new test → Contains old test ⊎ ((path : Bytes) × (leads : Bytes) × (absent ≡ Absent path) × (test ≡ Real (directory_of path) leads))
+
+-- of each path at which nothing is by these tests, it is tested where its directory leads, and no others are
+pub record AreAbsentLinks (tests links : List Test) : Type 0 where
+  pub each : (path : Bytes) → Contains tests (Absent path) → HasReal links (directory_of path)
+  pub only : (test : Test) → Contains links test → (path : Bytes) × (leads : Bytes) × Contains tests (Absent path) × (test ≡ Real (directory_of path) leads)
+
+-- the same by a compiler that knows a directory by its inode; by one that renames headers there is none
+abbrev pub AreLinksOf : Bool → List Test → List Test → Type 0
+AreLinksOf true tests links = links ≡ []
+AreLinksOf false tests links = AreAbsentLinks tests links
+
+abbrev pub HasAbsent : List Test → Type 0
+HasAbsent tests = (path : Bytes) × Contains tests (Absent path)

@@ -7,7 +7,7 @@
 //! directories in which the compiler looks for programs and a file of specs, and the system's lists of
 //! libraries; the programs; and what the system said of each of these paths, in a line. A store may come from
 //! another machine: there these lines are others.
-ghost use Rattle.std.specs.Prelude.{◌≡◌, ◌++◌, ◌↔◌, IfOk, IsTrue, List, MatchOption, map, string_bytes, ℕ};
+ghost use Rattle.std.specs.Prelude.{◌≡◌, ◌++◌, ◌↔◌, ◌⊎◌, IfOk, IsTrue, List, MatchOption, map, string_bytes, ℕ};
 ghost use Rattle.std.specs.Option.{option_map};
 ghost use Rattle.cck_cache_files.specs.Programs.{AreKept, ArePlaces, IsContext, IsKeptLine, IsLastPart, IsLine, IsListPath, IsListRead, StartsLine, absolute, may_execute, place_in};
 
@@ -245,7 +245,9 @@ fn is_executable<R: Files>(rt: &R, found: &Metadata) -> Option<bool> {
 
 // Whether a compiler looks for a program at the next place after this error. After another one, as where links go round in
 // a circle, it ends, and a shell goes on.
-fn is_passed_over(kind: ErrorKind) -> bool {
+fn is_passed_over(kind: ErrorKind) -> bool
+    ensures { IsTrue result ↔ (kind ≡ ErrorKind.NotFound) ⊎ ((kind ≡ ErrorKind.NotADirectory) ⊎ (kind ≡ ErrorKind.PermissionDenied)) }
+{
     matches!(
         kind,
         ErrorKind::NotFound | ErrorKind::NotADirectory | ErrorKind::PermissionDenied

@@ -1,14 +1,15 @@
-//! The links on the way to system headers.
+//! The links on the way to files and directories.
 //!
 //! GCC names a system header by its real path, all links followed, where that is shorter than the path at which
 //! it was found: in a dependency file and in debug information. So a link that comes, goes or leads elsewhere
-//! changes what is compiled, though each header is found with its contents.
+//! changes what is compiled, though each header is found with its contents. clang knows a directory by its inode, and
+//! calls it by the name by which it came first, also where it found nothing there.
 //!
 //! Source: `-fno-canonical-system-headers` of the manual of GCC's preprocessor.
-ghost use Rattle.std.specs.Prelude.{◌≡◌, IfOk, IfSome, IsOkUnless, IsTrue, IsUtf8, MatchOption, OnOk, false, true};
-ghost use Rattle.cck_cache_rules.specs.PathTest.{tests_of};
+ghost use Rattle.std.specs.Prelude.{◌≡◌, IfOk, IfSome, IsOkUnless, IsTrue, IsUtf8, MatchOption, [], false, true};
+ghost use Rattle.cck_cache_rules.specs.PathTest.{Absent, test_of, tests_of};
 ghost use Rattle.cck_cache_text.specs.Sets.{has_key};
-ghost use Rattle.cck_cache_files.specs.RealPaths.{ArePlaced, GainsPlace, GainsReal, HasReal, IsPathOf};
+ghost use Rattle.cck_cache_files.specs.RealPaths.{AreAbsentLinks, AreLinksOf, ArePlaced, GainsLink, GainsPlace, GainsReal, HasAbsent, HasReal, IsPathOf};
 ghost use Rattle.cck_path.specs.Bytes.{Bytes};
 
 use crate::path_states::{PathStates, is_plain_file};
@@ -16,7 +17,7 @@ use cck_cache_rules::PathTest;
 use cck_cache_text::directory_of;
 use cck_digest::UtilError;
 use cck_path::join_path;
-use std::alloc::AllocError;
+use std::alloc::{AllocError, Global};
 use std::collections::BTreeSet;
 use std::fs;
 use std::rt::Files;
@@ -97,7 +98,29 @@ fn is_last(real: &[PathTest], path: &[u8]) -> bool
     }
 }
 
+// The path at which nothing is by this test.
+fn absent_path(test: &PathTest) -> Option<&[u8]>
+    ensures { MatchOption result ((path : Bytes) → test_of test.now ≡ Absent path → ⊥)
+        (λ path. test_of test.now ≡ Absent path.now) }
+{
+    match test {
+        PathTest::Absent(path) => Some(path),
+        _ => None,
+    }
+}
+
 impl LinkTests {
+    // No tests.
+    fn new(alloc: Global) -> LinkTests
+        ensures plain { result.plain.items ≡ [] }
+        ensures real { result.real.items ≡ [] }
+    {
+        LinkTests {
+            plain: Vec::new(alloc),
+            real: Vec::new(alloc),
+        }
+    }
+
     // Adds the test of where a path leads, unless it is the last one. Returns `false` where that can't be known.
     fn add_real<R: Files + AllocGlobal>(&mut self, rt: &R, path: &[u8]) -> Result<bool, AllocError>
         ensures plain { self.new.plain ≡ self.old.plain }
@@ -115,6 +138,23 @@ impl LinkTests {
             real,
         })?;
         Ok(true)
+    }
+
+    // Adds the test of where the directory of a path leads, if nothing is at the path by this test. Returns `false` where
+    // that can't be known.
+    fn add_absent<R: Files + AllocGlobal>(
+        &mut self,
+        rt: &R,
+        test: &PathTest,
+    ) -> Result<bool, AllocError>
+        ensures gained { IfOk result (λ known. IsTrue known
+            → GainsLink (tests_of self.old.real.items) (test_of test.now) (tests_of self.new.real.items)) }
+        ensures unknown { IfOk result (λ known. known ≡ false → (path : Bytes) × (test_of test.now ≡ Absent path)) }
+    {
+        match absent_path(test) {
+            Some(path) => self.add_real(rt, directory_of(path)),
+            None => Ok(true),
+        }
     }
 
     // Adds the tests of the links on the way to the file at a path, which has this name. Returns `false` where they
@@ -159,10 +199,7 @@ pub fn link_tests<R: Files + AllocGlobal>(
     ensures errors { IsOkUnless result UtilError.Memory }
 {
     let alloc = rt.alloc();
-    let mut tests = LinkTests {
-        plain: Vec::new(alloc),
-        real: Vec::new(alloc),
-    };
+    let mut tests = LinkTests::new(alloc);
     for name in names {
         let path = join_path(alloc, directory, name)?;
         if !tests.add(rt, &path, name, renames)? {
@@ -170,4 +207,40 @@ pub fn link_tests<R: Files + AllocGlobal>(
         }
     }
     Ok(Some(tests))
+}
+
+// The tests of where the directories of the paths lead at which nothing is by these tests. `None` where it is not known
+// where one of them leads.
+fn absent_links<R: Files + AllocGlobal>(
+    rt: &R,
+    tests: &[PathTest],
+) -> Result<Option<Vec<PathTest>>, AllocError>
+    ensures { IfOk result (λ found. MatchOption found (HasAbsent (tests_of tests.now))
+        (λ links. AreAbsentLinks (tests_of tests.now) (tests_of links.items))) }
+{
+    let mut links = LinkTests::new(rt.alloc());
+    for test in tests {
+        if !links.add_absent(rt, test)? {
+            return Ok(None);
+        }
+    }
+    Ok(Some(links.real))
+}
+
+/// The tests of where the directories of the paths lead at which nothing is by these tests, by a compiler that knows a
+/// directory by its inode. One that renames headers has none. `None` where it is not known where one of them leads.
+///
+/// The only error is lack of memory.
+pub fn links_of<R: Files + AllocGlobal>(
+    rt: &R,
+    tests: &[PathTest],
+    renames: bool,
+) -> Result<Option<Vec<PathTest>>, AllocError>
+    ensures { IfOk result (λ found. MatchOption found ((renames ≡ false) × HasAbsent (tests_of tests.now))
+        (λ links. AreLinksOf renames (tests_of tests.now) (tests_of links.items))) }
+{
+    if renames {
+        return Ok(Some(Vec::new(rt.alloc())));
+    }
+    absent_links(rt, tests)
 }

@@ -1,7 +1,8 @@
 use Rattle.std.proofs.lemmas.Result.{IfOk-weaker}
+use Rattle.cck_cache_rules.specs.PathTest.{tests_of}
 use Rattle.cck_path.specs.Bytes.{lists_of}
 use Rattle.cck_cache.specs.Input.{IsCalm}
-use Rattle.cck_cache.specs.Record.{IsKept, IsOutcomeOver, gathered_tests}
+use Rattle.cck_cache.specs.Record.{IsKept, IsOutcomeOver}
 use Rattle.cck_cache.specs.declared.record.Outcome.{Outcome}
 use Rattle.cck_cache.proofs.RecordLemmas.{added_outcome, refused_entry}
 use Rattle.cck_cache.proofs.record.record_over.Goals as goal
@@ -13,7 +14,7 @@ returns-in-Refused g c =
 
 pub returns-in-Added : goal.returns-in-Added
 returns-in-Added g c =
-    IfOk-weaker c.record_added.result (IsKept c.args.request.now (lists_of c.deref-in-Added.result.now) c.in-Added.added (gathered_tests c.args.gathered))
+    IfOk-weaker c.record_added.result (IsKept c.args.request.now (lists_of c.deref-in-Added.result.now) c.in-Added.added (tests_of c.args.gathered.tests.items))
     (λ (outcome : Outcome). IsCalm c.args.gathered.files → IsOutcomeOver c.args.environment.now c.args.request.now c.args.compilation.now c.args.text.now c.args.gathered outcome)
     (λ outcome.
     added_outcome c.args.environment.now c.args.request.now c.args.compilation.now c.args.text.now c.args.gathered c.base_words.result c.in_ok-bases.bases c.deref.result.now c.deref-in-Added.result.now c.in_ok-refusal.field-0 c.in-Added.added outcome

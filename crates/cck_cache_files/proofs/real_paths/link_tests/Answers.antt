@@ -14,8 +14,8 @@ use Rattle.cck_cache_files.proofs.real_paths.link_tests.Goals as goal
 
 pub loop-name-init : goal.loop-name-init
 loop-name-init g c =
-    none_placed (IsPathOf c.args.directory.now (IsAmong c.args.names.now.keys 0)) (record { plain = c.new.result; real = c.new-2.result })
-    (λ path at. no_name c.args.names.now.keys at.0 at.1) c.new.ensures.items c.new-2.ensures.items
+    none_placed (IsPathOf c.args.directory.now (IsAmong c.args.names.now.keys 0)) c.new-tests.result
+    (λ path at. no_name c.args.names.now.keys at.0 at.1) c.new-tests.ensures.plain c.new-tests.ensures.real
 
 pub returns-then-not-branch-clause-tests : goal.returns-then-not-branch-clause-tests
 returns-then-not-branch-clause-tests g c =
