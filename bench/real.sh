@@ -1,6 +1,7 @@
 #!/bin/sh
-# Times builds of a project's files at -O2 -g: by gcc, by the wrapper and by ccache in direct mode, with an
-# empty store and with all hits, and what one hit takes. PROJECT is lua, the default, zstd, freetype, libxml2,
+# Times builds of a project's files at -O2 -g: by gcc, by gcc with its preprocessor beside it, which each cache runs that
+# makes keys of preprocessed text, by the wrapper and by ccache in direct mode, with an empty store and with all hits, and
+# what one hit takes. PROJECT is lua, the default, zstd, freetype, libxml2,
 # mbedtls, libuv, jemalloc or, in C++, re2. JOBS is the number of jobs, 1 by default, and ROUNDS the number of rounds, 3 by
 # default: a round has each build once, with all hits three times, and the least time of each counts. Needs gcc,
 # make, Python 3 and Debian's package archive; ccache for its lines, and strace and valgrind for theirs.
@@ -60,8 +61,19 @@ esac
 with_ccache=
 if command -v ccache >/dev/null; then with_ccache=1; fi
 
+cat >"$room/preprocessing" <<'END'
+#!/bin/sh
+gcc -E "$@" -o /dev/null &
+gcc "$@"
+status=$?
+wait
+exit $status
+END
+chmod +x "$room/preprocessing"
+
 for round in $(seq "${ROUNDS:-3}"); do
     timed 'gcc' gcc
+    timed 'gcc, gcc -E beside it' "$room/preprocessing"
     rm -rf "$CCK_STORE" "$CCACHE_DIR"
     timed 'cckcc, empty store' 'cckcc gcc'
     [ -z "$with_ccache" ] || timed 'ccache, empty store' 'ccache gcc'

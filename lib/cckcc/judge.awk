@@ -179,6 +179,9 @@ is_clang && !is_read++ {
             print "ignoring nonexistent directory \"" name "\"" > (ENVIRON["cck_scratch"] "/left-out")
     }
 }
+# In C before C99 `//` begins a comment for the compiler, and not for the preprocessor alone, but in GNU C.
+is_clang && is_c && current == "<built-in>" && /^#define __STRICT_ANSI__ / { is_strict = 1 }
+is_clang && is_c && current == "<built-in>" && /^#define __STDC_VERSION__ / { version = $3 + 0 }
 # Code for the assembler.
 is_clang && standard == "" && /^#define __cplusplus / { standard = $3 + 0 }
 is_clang { is_raw = raw_end != "" }
@@ -211,11 +214,12 @@ index($0, "R\"") && goes_on($0) { marks = 1 }
 /^#(include|include_next|import)[ \t].*>[ \t]*struct[ \t]*[0-9]/ { reason = "header-test" }
 !/^[ \t]*#[ \t]*pragma/ { next }
 # A pragma takes effect when it preprocesses too, so that one that may turn off the warning of a time macro counts as one. So
-# does another one than a few.
+# does another one than a few, and one of loops with more than words in parentheses, since it may have code.
 is_clang && !/^[ \t]*#[ \t]*pragma[ \t]+(((GCC|clang)[ \t]+(diagnostic|system_header|poison|visibility|loop)|unroll|nounroll|weak|message|STDC|(push|pop)_macro)([ \t(]|$)|pack[ \t]*[(][a-z0-9_, \t]*[)][ \t]*$)/ {
     shows_time = 1
 }
 is_clang && !/^[ \t]*#[ \t]*pragma[ \t]+(GCC|clang)[ \t]+(diagnostic|system_header|poison)[ \t]/ { add_pragma($0) }
+is_clang && /^[ \t]*#[ \t]*pragma[ \t]+(clang[ \t]+loop|unroll|nounroll)[^A-Za-z]/ && /[^A-Za-z0-9_()# \t]/ { shows_time = 1 }
 is_clang && /diagnostic/ && (!/diagnostic[ \t]+(push|pop|[a-z]+[ \t]+"-W[A-Za-z0-9+=_-]+")[ \t]*$/ || /-Wdate-time|-Weverything/) {
     shows_time = 1
 }
@@ -260,7 +264,9 @@ END {
     if (stands && is_macro(text)) reason = "header-test"
     else if (expands && is_macro(text)) shows_time = 1
     if (nesting > 0 || raw_end != "" || ((has_raw || has_names) && has_code)) reason = "assembler-include"
-    if (has_spaces) reason = "other-file"
+    if (has_spaces || (is_strict && version < 199901)) reason = "other-file"
+    if (is_clang && ENVIRON["cck_preprocessed"] ~ (instead "|([\\\\]|[?][?]/)[uU]|" spaces)) reason = "other-file"
+    if (is_clang && !is_c && ENVIRON["cck_preprocessed"] ~ keyword) reason = "header-test"
     if (is_clang) write_places()
     print shows_time ? "time-macro" : reason
     print doubts (asks ? " builtins" : "")

@@ -639,6 +639,8 @@ if [ -s "$cck_scratch/messages" ] && ! lacks '/cc[A-Za-z0-9]\{6\}\.s' "$cck_scra
     cck_refused=temporary-name
 fi
 has_plain_names "$@" || cck_refused=offload
+# The assembler may have included a file of the name that it has for its input.
+[ ! -e '{standard input}' ] || cck_refused=assembler-include
 # Assembler code can include its own file, and its object can name the preprocessed one, as with STABS.
 if is_assembler; then
     lacks '/cc[A-Za-z0-9]\{6\}\.s' "$cck_out" || cck_refused=temporary-name

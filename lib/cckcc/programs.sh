@@ -24,9 +24,39 @@ is_known() {
     esac
 }
 
+# Whether clang finds nothing of its own or of gcc below a directory but what is there now: no installation of gcc, and no link to
+# nothing in the place of a directory of libraries. Below /usr it may take one of gcc.
+has_no_installation() {
+    [ "$1" -ef /usr ] && return
+    for cck_next in "$1"/lib "$1"/lib32 "$1"/lib64 "$1"/libx32 "$1"/lib*/gcc "$1"/lib*/gcc-cross; do
+        if [ -h "$cck_next" ] && ! [ -e "$cck_next" ]; then return 1; fi
+        case $cck_next in
+        */gcc|*/gcc-cross) [ ! -e "$cck_next" ] || return 1 ;;
+        esac
+    done
+}
+
+# Whether clang has one directory of headers of its own, beside the directory $1 of its program.
+has_headers() {
+    set -- "$1"/../lib/clang/*/include
+    [ $# -eq 1 ] && [ -d "$1" ]
+}
+
+# Sets `cck_installation` to a file of the installation of gcc whose headers and libraries clang takes. It fails where that is not
+# one of the system by its own name.
+find_installation() {
+    case :$PATH: in
+    *::*) return 1 ;;
+    esac
+    has_no_installation "${cck_located%/*}/.." && has_no_installation "${cck_driver%/*}/.." && has_headers "${cck_driver%/*}" || return
+    cck_next=$(LC_ALL=C "$cck_compiler" -v -E -x c /dev/null 2>&1 < /dev/null | sed -n 's/^Selected GCC installation: //p')
+    cck_installation=$(readlink -f "$cck_next/crtbegin.o")
+    [ "$cck_installation" = "/usr/lib/gcc/x86_64-linux-gnu/${cck_next##*/}/crtbegin.o" ] && [ -f "$cck_installation" ]
+}
+
 # The same of clang 14, which compiles and assembles in one process. By the name under which it is called it is a compiler
 # for C or for C++, and `cck_proper` the program of that name beside it. It reads no configuration file, and takes headers of
-# an installation of gcc, of which a file counts as a program (`find_installations`).
+# an installation of gcc, of which a file counts as a program.
 knows_clang() {
     case ${cck_located##*/} in
     clang|clang-14|cc) cck_proper=${cck_driver%/*}/clang ;;
@@ -38,9 +68,7 @@ knows_clang() {
     14|14.*) ;;
     *) return 1 ;;
     esac
-    cck_installation=$(LC_ALL=C "$cck_compiler" -v -E -x c /dev/null 2>&1 < /dev/null | sed -n 's/^Selected GCC installation: //p')
-    cck_installation=$(readlink -f "$cck_installation/crtbegin.o")
-    [ -f "$cck_installation" ] || return 1
+    find_installation || return
     for cck_next in paste sort xargs; do command -v "$cck_next" > /dev/null || return 1; done
     [ "$cck_proper" -ef "$cck_driver" ] && head -c 4 "$cck_driver" | grep -q ELF || return 1
     true > "$cck_tried/empty.c"
@@ -93,7 +121,10 @@ reads_specs() {
     case $cck_next in
     /*) return 0 ;;
     esac
-    [ -e "${cck_proper%/*}/specs" ] || [ -e "${cck_proper%/*}/../specs" ]
+    for cck_next in "${cck_proper%/*}/specs" "${cck_proper%/*}/../specs"; do
+        if [ -e "$cck_next" ] || [ -h "$cck_next" ]; then return 0; fi
+    done
+    return 1
 }
 
 # Adds a directory to those in which the compiler looks for programs, and the directory of each link on the way to it,
@@ -126,8 +157,21 @@ find_installations() {
     done
 }
 
+# Whether what is at the path of a program is none that may be executed, or a link on the way to it leads to nothing. Either may
+# become the program that a compiler runs, and the directory does not change.
+may_become_program() {
+    if [ -f "$1" ] && [ -x "$1" ]; then return 1; fi
+    [ -e "$1" ] || leads_nowhere "$1"
+}
+
+# Whether all users may execute these programs and search these directories, if users share the store.
+are_for_all() {
+    [ -z "$CCK_UMASK" ] && ! [ -g "$cck_store" ] || [ -z "$(find -L "$@" -prune ! -perm -0111 2>&1)" ]
+}
+
 # Sets `cck_searched` to the directories in which the compiler looks for programs, with colons between them. One that is
-# not there is named by the one above it, which changes when it comes. It fails where they are not known.
+# not there is named by the one above it, which changes when it comes. It fails where they are not known, or something in
+# them may become a program.
 find_searched() {
     cck_searched=${cck_proper%/*}
     cck_directories=$("$cck_compiler" -print-search-dirs 2>/dev/null | sed -n 's/^programs: =//p')
@@ -139,6 +183,10 @@ find_searched() {
         /*) ;;
         *) cck_directory=$PWD/$cck_directory ;;
         esac
+        for cck_name in as cc1 cc1plus; do
+            ! may_become_program "${cck_directory%/}/$cck_name" || return
+        done
+        [ ! -d "$cck_directory/." ] || are_for_all "$cck_directory" || return
         while [ -n "$cck_directory" ] && ! [ -d "$cck_directory/." ]; do
             case $cck_directory in
             */) cck_directory=${cck_directory%/} ;;
@@ -182,10 +230,13 @@ list_statuses() {
         sed 's/\.0*\([0-9][0-9]*\) \([0-9]*\)\.0*\([0-9][0-9]*\)$/.\1 \2.\3/'
 }
 
-# Writes the list. Its time is that at which the compiler was first asked: it does not count if a path changed since then.
+# Writes the list. Its time is that at which the compiler was first asked: it does not count if a path changed since then. A
+# program that loses the right to be executed changes.
 write_list() {
     cck_tested=/etc/ld.so.cache:/etc/ld.so.preload
-    [ "$cck_programs" = - ] || cck_tested=$cck_searched:$cck_tested
+    if [ "$cck_programs" != - ]; then
+        cck_tested=$cck_proper${cck_assembler:+:$cck_assembler}${cck_plusplus:+:$cck_plusplus}:$cck_searched:$cck_tested
+    fi
     cck_tested=$cck_driver:$cck_tested
     (
         share
@@ -207,7 +258,8 @@ knows_compiler() {
     esac
     cck_assembler=$(command -v "$("$cck_compiler" -print-prog-name=as 2>/dev/null)")
     find_proper
-    is_known && ! reads_specs && has_plain_libraries && says_what_it_read "$cck_assembler" "$cck_tried"
+    is_known && ! reads_specs && has_plain_libraries && says_what_it_read "$cck_assembler" "$cck_tried" &&
+        are_for_all "$cck_driver" "$cck_proper" "$cck_assembler" $cck_plusplus
 }
 
 # Asks the compiler for the programs, and keeps them. Where a tool fails the compiler is unknown to this call alone. A program

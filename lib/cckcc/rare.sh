@@ -1,5 +1,5 @@
-# What is rarely needed for a call: bin/cckcc sources this script where LIBRARY_PATH or LPATH is set, and for a call with an
-# option for `native`. It has set `cck_compiler`.
+# What is rarely needed for a call: bin/cckcc sources this script where LIBRARY_PATH or LPATH is set, for a call with an
+# option for `native`, and in a terminal for a compiler that is not gcc by its name. It has set `cck_compiler`.
 
 # Sets `cck_has_specs` if a directory of LIBRARY_PATH or LPATH has a file of specs, which the compiler reads and no key has, and
 # to nothing otherwise.
@@ -28,4 +28,23 @@ find_native() {
         shift $cck_count
         LC_ALL=C exec "$cck_compiler" '-###' "$@" -E -x c /dev/null 2>&1 < /dev/null
     ) && export CCK_NATIVE || unset CCK_NATIVE
+}
+
+# Whether the compiler colours its messages in this terminal. clang asks the terminal's description, and that of the system has
+# colours for these names.
+has_colors() {
+    case $TERM in
+    linux|rxvt|screen|screen-256color|tmux|tmux-256color|xterm|xterm-256color)
+        cck_next=${TERM%"${TERM#?}"}/$TERM
+        if [ -z "$TERMINFO$TERMINFO_DIRS" ] && [ ! -e "$HOME/.terminfo" ] && [ ! -e "/etc/terminfo/$cck_next" ] &&
+            [ -e "/lib/terminfo/$cck_next" ]; then return; fi
+        ;;
+    esac
+    case ${cck_compiler##*/} in
+    *clang*) return 1 ;;
+    esac
+    case $(readlink -f "$(command -v "$cck_compiler")") in
+    *gcc*|*g++*) ;;
+    *) return 1 ;;
+    esac
 }

@@ -17,9 +17,9 @@ BEGIN {
         "|([\\\\]|[?][?]/)[uU](0000)?(00(85|[aA]0)|1680|180[eE]|20(0[0-9aA]|2[89fF]|5[fF])|3000)"
     letter_spaces = substr(spaces, 1, index(spaces, "|([") - 1)
     # No line of the text shows the header that `include_instead` names, and a word that `__is_identifier` asks for may be a
-    # keyword for the preprocessor alone: neither name is there, nor a part of it that may be pasted together with the rest.
+    # keyword for the preprocessor alone: neither name is there, nor one of two parts that may be pasted together.
     instead = "(^|[^A-Za-z0-9_$])include_(i(n(s(t(ea?)?)?)?)?)?([^A-Za-z0-9_$]|$)|_instead([^A-Za-z0-9_$]|$)"
-    keyword = "(^|[^A-Za-z0-9_$])__is_id?(e(n(t(i(f(ie?)?)?)?)?)?)?([^A-Za-z0-9_$]|$)|__is_identifier"
+    keyword = "(^|[^A-Za-z0-9_$])(__(i(s(_(i(d(e(n(t(i(f(ie?)?)?)?)?)?)?)?)?)?)?)?|_is_identifier)([^A-Za-z0-9_$]|$)|__is_identifier"
     # What may be a line marker, after blanks and comments.
     blank = "[ \t\r\f\013]"
     comment = "/[*]([^*]|[*]+[^*/])*"
@@ -179,7 +179,7 @@ function has_asked(file, line, word, is_any) {
 }
 
 # Sets `has_spaces` where a file has such a blank in code. It is nothing in a comment or in a literal, if it is clear where
-# these end.
+# these begin and end: what follows the name of a directive may be no code.
 function judge_spaces(file, line, held, code) {
     in_comment = is_unclear = 0
     while ((getline line < file) > 0) {
@@ -187,6 +187,7 @@ function judge_spaces(file, line, held, code) {
         line = held line
         held = ""
         code = code_of(line)
+        if (line ~ /#|%:|[?][?]=/ && index(line, "/*")) is_unclear = 1
         if (code ~ /["']|R $/ || line ~ /R"|[?][?]\//) is_unclear = 1
         if ((is_unclear ? line : code) ~ spaces) has_spaces = 1
     }

@@ -79,7 +79,7 @@ judge_text() {
     true > "$cck_scratch/ignored"
     list_lines
     cck_own=$cck_own cck_extended=$cck_extended cck_targets=$cck_targets cck_is_c=$cck_is_c cck_is_assembler=$cck_is_assembler \
-        cck_is_clang=$cck_is_clang cck_scratch=$cck_scratch cck_place=${cck_is_clang:+$(pwd -P)} GREP_OPTIONS= LC_ALL=C \
+        cck_is_clang=$cck_is_clang cck_scratch=$cck_scratch cck_place=${cck_is_clang:+$(pwd -P)} cck_preprocessed=$cck_preprocessed GREP_OPTIONS= LC_ALL=C \
         awk -f "$cck_scripts/sources.awk" -f "$cck_scripts/assembler.awk" -f "$cck_scripts/judge.awk" \
         ${cck_is_clang:+is_rule=1 "$cck_scratch/text-listed" is_rule=0} "$cck_scratch/text-search" is_text=1 "$cck_lines" < /dev/null
 }
@@ -133,9 +133,6 @@ judge_arguments() {
     esac
     case $cck_preprocessed in
     *structive-interference-size*) cck_hidden=other-file ;;
-    esac
-    case $cck_is_clang$cck_preprocessed in
-    1*include_instead*|1*__is_identifier*|1*\\[uU]*) cck_hidden=other-file ;;
     esac
 }
 

@@ -1,10 +1,27 @@
 //! Whether what a compilation writes may be put at its paths.
+ghost use Rattle.std.specs.Prelude.{◌≤◌, ◌+◌, ◌↔◌, Contains, IsTrue, length};
+ghost use Rattle.cck_cache_text.specs.Names.{directory_of};
+
 use crate::call::CallPaths;
 use cck_cache_files::Identity;
+use cck_cache_text::directory_of;
 use std::fs;
 use std::fs::{Metadata, OpenOptions};
 use std::io::ErrorKind;
 use std::rt::Files;
+
+// The longest name of an object beside which clang can make a temporary file: that has 13 bytes more, and at most 255.
+const LONGEST_NAME: usize = 242;
+
+// Whether clang can make a temporary file beside an object at this path. In its path each percent sign becomes a digit.
+// Where it can't, it writes to an object that is there.
+fn has_room_beside(path: &[u8]) -> bool
+    ensures { IsTrue result ↔ (Contains (directory_of path.now) 37 → ⊥)
+        × (length path.now ≤ length (directory_of path.now) + 242) }
+{
+    let directory = directory_of(path);
+    !directory.contains(&b'%') && path.len() <= directory.len() + LONGEST_NAME
+}
 
 // Whether a file can be opened for writing. clang makes its object anew, but not in the place of one that can't.
 fn is_writable<R: Files>(rt: &R, path: &str) -> bool {
@@ -47,7 +64,10 @@ pub fn are_free<R: Files>(rt: &R, paths: &CallPaths<'_>) -> bool {
         return false;
     };
     let output = paths.output.as_str();
-    if output == "-" || !is_free(rt, &input, output, 1) {
+    if output == "-" || !has_room_beside(output.as_bytes()) {
+        return false;
+    }
+    if !is_free(rt, &input, output, 1) {
         return false;
     }
     match &paths.dependencies {

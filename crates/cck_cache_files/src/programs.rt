@@ -2,9 +2,9 @@
 //!
 //! Which programs a compiler runs and what they load is asked of the compiler once, by the wrapper, and
 //! kept in a list. Its lines are the path of the compiler, that of the assembler, `PATH`,
-//! `LD_LIBRARY_PATH` and `LD_PRELOAD`, which say for which calls it counts; the file that the compiler is,
-//! to which links lead; the paths on which the rest depends, with colons between them: that file, the
-//! directories in which the compiler looks for programs and a file of specs, and the system's lists of
+//! `LD_LIBRARY_PATH` and `LD_PRELOAD`, which say for which calls it counts; the path to which the compiler's
+//! leads, all links followed; the paths on which the rest depends, with colons between them: that path, the
+//! programs, the directories in which the compiler looks for programs and a file of specs, and the system's lists of
 //! libraries; the programs; and what the system said of each of these paths, in a line. A store may come from
 //! another machine: there these lines are others.
 ghost use Rattle.std.specs.Prelude.{◌≡◌, ◌++◌, ◌↔◌, ◌⊎◌, IfOk, IsTrue, List, MatchOption, map, string_bytes, ℕ};
@@ -12,7 +12,6 @@ ghost use Rattle.std.specs.Option.{option_map};
 ghost use Rattle.cck_cache_files.specs.Programs.{AreKept, ArePlaces, IsContext, IsKeptLine, IsLastPart, IsLine, IsListPath, IsListRead, StartsLine, absolute, may_execute, place_in};
 
 use crate::compiler::line_of;
-use crate::identity::Identity;
 use crate::path_in::path_in;
 use crate::times::{changed, changed_before, modified};
 use cck_path::Timestamp;
@@ -72,8 +71,8 @@ pub enum KeptPrograms {
 // What was found of a program.
 #[derive(Drop)]
 enum Located {
-    // Its path, and its status.
-    At(String, Metadata),
+    // Its path.
+    At(String),
     // It is at none of its places.
     Nowhere,
     // It may be at a place before all at which it is.
@@ -271,7 +270,7 @@ fn locate<R: Files + AllocGlobal>(
             continue;
         }
         match is_executable(rt, &found) {
-            Some(true) => return Ok(Located::At(place, found)),
+            Some(true) => return Ok(Located::At(place)),
             Some(false) => {}
             None => return Ok(Located::Doubtful),
         }
@@ -321,21 +320,22 @@ fn are_kept<R: Files + AllocGlobal>(
     Ok(lines.as_str() == statuses)
 }
 
-// Whether a path leads to the file with this status.
-fn leads_to<R: Files>(rt: &R, path: &str, status: &Metadata) -> bool {
-    match fs::metadata(rt, path) {
-        Ok(found) => Identity::of(&found).is(Identity::of(status)),
+// Whether a path leads to this one, all links followed. A compiler looks for its programs and headers from there: one
+// file may be the compiler of two installations.
+fn leads_to<R: Files + AllocGlobal>(rt: &R, path: &str, file: &str) -> bool {
+    match fs::canonicalize(rt, path) {
+        Ok(found) => found.as_str() == file,
         Err(_) => false,
     }
 }
 
-// What the list at a path keeps, if its first lines are these and it still holds for a compiler with this
-// status. Its time is taken before it is read, so that what is read is not older than that.
+// What the list at a path keeps, if its first lines are these and it still holds for the compiler at a path.
+// Its time is taken before it is read, so that what is read is not older than that.
 fn kept_in<R: Files + AllocGlobal>(
     rt: &R,
     path: &str,
     context: &str,
-    status: &Metadata,
+    compiler: &str,
 ) -> Result<KeptPrograms, AllocError> {
     let Some(since) = fs::metadata(rt, path).ok().and_then(|list| modified(&list)) else {
         return Ok(KeptPrograms::Nothing);
@@ -349,7 +349,10 @@ fn kept_in<R: Files + AllocGlobal>(
     let Some(listed) = read_list(context, text) else {
         return Ok(KeptPrograms::Nothing);
     };
-    if !leads_to(rt, listed.file, status) || !are_kept(rt, listed.paths, listed.statuses, since)? {
+    if !leads_to(rt, compiler, listed.file) {
+        return Ok(KeptPrograms::Nothing);
+    }
+    if !are_kept(rt, listed.paths, listed.statuses, since)? {
         return Ok(KeptPrograms::Nothing);
     }
     match listed.programs {
@@ -361,9 +364,9 @@ fn kept_in<R: Files + AllocGlobal>(
 
 /// What a store keeps of the programs of a compiler, which is called by this name in this working
 /// directory and with these variables. What is kept counts only if it was kept for the same compiler, the
-/// same assembler and the same variables, and the compiler is still the same file; and only if the system
-/// says of the compiler, of each directory in which it looks for programs, and of the lists of libraries what
-/// it said then, and none of them changed since then.
+/// same assembler and the same variables, and the compiler's path still leads to the same one; and only if the
+/// system says of what is there, of the programs, of each directory in which it looks for them, and of the lists of
+/// libraries what it said then, and none of them changed since then.
 ///
 /// The only error is lack of memory.
 pub fn kept_programs<R: Files + AllocGlobal>(
@@ -375,11 +378,11 @@ pub fn kept_programs<R: Files + AllocGlobal>(
 ) -> Result<KeptPrograms, AllocError> {
     let alloc = rt.alloc();
     let path = variables.path.as_str();
-    let Located::At(located, status) = locate(rt, directory, path, compiler)? else {
+    let Located::At(located) = locate(rt, directory, path, compiler)? else {
         return Ok(KeptPrograms::Nothing);
     };
     let assembler = match locate(rt, directory, path, ASSEMBLER)? {
-        Located::At(assembler, _) => assembler,
+        Located::At(assembler) => assembler,
         Located::Nowhere => String::new(alloc),
         Located::Doubtful => return Ok(KeptPrograms::Nothing),
     };
@@ -388,5 +391,5 @@ pub fn kept_programs<R: Files + AllocGlobal>(
         return Ok(KeptPrograms::Nothing);
     };
     let list = list_path(alloc, store, compiler, context.len())?;
-    kept_in(rt, list.as_str(), context.as_str(), &status)
+    kept_in(rt, list.as_str(), context.as_str(), located)
 }

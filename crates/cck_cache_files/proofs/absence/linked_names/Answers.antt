@@ -13,8 +13,8 @@ pub returns : goal.returns
 returns c marks are name =
     let search = search_fields c.args.search.now in
     let first = c.in_ok-names.names in
-    let middle = c.add_copies.new.names in
-    let last = c.add_copies-2.new.names in
+    let middle = c.add_copies.new.paths in
+    let last = c.add_copies-2.new.paths in
     let named : has_key first name ≡ is_named marks name =
     has-copy _ (λ v w same. each_same v.items w.items same.0) c.names.result.now first c.in_ok-names.ensures.cases name ∙ c.names.ensures marks are name in
     let listed : Adds (Contains search.directories) first middle =
