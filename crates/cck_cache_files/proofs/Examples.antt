@@ -12,7 +12,7 @@ too_short = refl
 
 -- the links on the way to a directory that is searched, and to one that was left out, are tested by a compiler that renames no header
 searched : IsLinked false (record { directories = codes "/i" ∷ []; quoted = 0; missing = []; duplicates = codes "/j" ∷ [] }) [] [] (codes "/i")
-searched = inr (inl (0, (omega arith, refl)))
+searched = inr (inl (0, omega arith, refl))
 
 left_out : IsLinked false (record { directories = codes "/i" ∷ []; quoted = 0; missing = []; duplicates = codes "/j" ∷ [] }) [] [] (codes "/j")
-left_out = inr (inr (0, (omega arith, refl)))
+left_out = inr (inr (0, omega arith, refl))
