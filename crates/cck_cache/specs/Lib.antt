@@ -8,6 +8,7 @@ pub mod Judge
 pub mod Look
 pub mod Naming
 pub mod Outputs
+pub mod Places
 pub mod Record
 pub mod Request
 pub mod Response

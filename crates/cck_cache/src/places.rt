@@ -1,6 +1,6 @@
 //! Whether what a compilation writes may be put at its paths.
-ghost use Rattle.std.specs.Prelude.{◌≤◌, ◌+◌, ◌↔◌, Contains, IsTrue, length};
-ghost use Rattle.cck_cache_text.specs.Names.{directory_of};
+ghost use Rattle.std.specs.Prelude.{◌≡◌};
+ghost use Rattle.cck_cache.specs.Places.{has_room_beside};
 
 use crate::call::CallPaths;
 use cck_cache_files::Identity;
@@ -16,8 +16,7 @@ const LONGEST_NAME: usize = 242;
 // Whether clang can make a temporary file beside an object at this path. In its path each percent sign becomes a digit.
 // Where it can't, it writes to an object that is there.
 fn has_room_beside(path: &[u8]) -> bool
-    ensures { IsTrue result ↔ (Contains (directory_of path.now) 37 → ⊥)
-        × (length path.now ≤ length (directory_of path.now) + 242) }
+    ensures { result ≡ has_room_beside path.now }
 {
     let directory = directory_of(path);
     !directory.contains(&b'%') && path.len() <= directory.len() + LONGEST_NAME
