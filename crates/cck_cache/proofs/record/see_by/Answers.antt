@@ -56,8 +56,8 @@ returns-in-Refused-others g c renamed =
       refused = rw c.in-Refused-others.is at c.in_ok-others.ensures.unnamed;
     })))
 
-pub returns-in-Tests-others : goal.returns-in-Tests-others
-returns-in-Tests-others g c renamed =
+pub returns-in_ok-tests-in-Tests-others : goal.returns-in_ok-tests-in-Tests-others
+returns-in_ok-tests-in-Tests-others g c renamed =
     let request = c.args.preprocessed.now.request.now in
     let since = c.args.preprocessed.now.since in
     let printed = c.args.preprocessed.now.printed.now in
