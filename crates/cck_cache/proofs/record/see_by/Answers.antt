@@ -71,7 +71,7 @@ returns-in_ok-tests-in-Tests-others g c renamed =
     let made = tests_of c.in-Tests.tests.items in
     let asked = tests_of c.in-Tests-tested.asked_tests.items in
     let others = tests_of c.in-Tests-others.unnamed_tests.items in
-    let all = tests_of c.in_ok-tests.tests.items in
+    let all = tests_of c.in_ok-tests-in-Tests-others.tests.items in
     let path_tests : HasPathTests request since printed text made = record {
       states = c.absence_of.new.states;
       since_is = c.in_ok-refusal.ensures.kept.since ∙ c.new-states.ensures.since;
@@ -93,7 +93,7 @@ returns-in_ok-tests-in-Tests-others g c renamed =
     let no_copies = subst (λ (m : FileMap). IsCopiesVerdict m request text false) c.in_ok-tested.ensures.keeps.same_map (rw c.if-branch.false at c.in_ok-may_have_copies.ensures.found) in
     let there : HasUnnamedTests request since printed text after.files others = subst (λ (m : FileMap). HasUnnamedTests request since printed text m others) first.same_map unnamed in
     let is_all : all ≡ (made ++ asked) ++ others =
-    three_lists c.in-Tests.tests.items c.in-Tests-tested.asked_tests.items c.in-Tests-others.unnamed_tests.items c.in_ok-all_tests.field-0.items c.in_ok-tests.tests.items c.in_ok-all_tests.ensures c.in_ok-tests.ensures
+    three_lists c.in-Tests.tests.items c.in-Tests-tested.asked_tests.items c.in-Tests-others.unnamed_tests.items c.in_ok-all_tests-in-Tests-others.field-0.items c.in_ok-tests-in-Tests-others.tests.items c.in_ok-all_tests-in-Tests-others.ensures c.in_ok-tests-in-Tests-others.ensures
     in
     let calm = calm_kept after new keeps (calm_grown text cwd before after (rw c.bytes.ensures at c.in_ok-is_doubtful.ensures.named) c.in_ok-files.ensures.calm) in
     let over = tested_over request since printed text after.files new.files made asked others all keeps.same_map are no_copies path_tests tested there is_all in
