@@ -63,7 +63,18 @@ if command -v ccache >/dev/null; then with_ccache=1; fi
 
 cat >"$room/preprocessing" <<'END'
 #!/bin/sh
-gcc -E "$@" -o /dev/null &
+(
+    is_output=
+    for word do
+        shift
+        case $is_output$word in
+        1*) is_output= ;;
+        -o) is_output=1 ;;
+        *) set -- "$@" "$word" ;;
+        esac
+    done
+    exec gcc -E "$@" >/dev/null 2>&1
+) &
 gcc "$@"
 status=$?
 wait
