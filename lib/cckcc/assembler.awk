@@ -10,8 +10,10 @@ BEGIN {
         "|asciz|string|zero|skip|space|globl|global|weak|hidden|local|comm|type|size|set|symver|ident"
     # Words after which another statement may follow.
     prefixes = "lock|rep|repn?[ez]|[c-g]s|ss|rex64|data(16|32)|addr(16|32)|(x?acquire|x?release)|bnd|notrack"
-    # What is replaced by an operand.
+    # What is replaced by an operand; and one that something else follows than what may follow it in an instruction: a directive
+    # that reads a file is a name and a string.
     operand = "%[A-Za-z]?([0-9]|\\[)"
+    followed = "%[A-Za-z]?([0-9]+|\\[[^]]*\\])[ \t]*[^ \t0-9,()+*:-]"
 }
 
 # Reads a line that may have code, or goes on in it or in a raw string. The strings of code before its operands are put
@@ -66,13 +68,14 @@ function judge_code(code, word, size, statements) {
     }
 }
 
-# Judges a statement of code with operands: after labels and prefixes it is an instruction with a name of its own, or a
-# directive without operands.
+# Judges a statement of code with operands: after labels and prefixes it is an instruction with a name of its own, in which
+# no operand follows another one without a comma, or a directive without operands.
 function judge_statement(text) {
     while (match(text, /^[ \t]*[A-Za-z0-9_.$%=]+[ \t]*:/)) {
         if (substr(text, 1, RLENGTH) ~ operand) reason = "assembler-include"
         text = substr(text, RLENGTH + 1)
     }
+    if (text ~ followed) reason = "assembler-include"
     sub(/^[ \t]+/, "", text)
     while (match(tolower(text), "^(" prefixes ")[ \t]+")) text = substr(text, RLENGTH + 1)
     if (text ~ /^\./ ? text ~ operand : text !~ /^([A-Za-z_][A-Za-z0-9_.]*([ \t]|$)|$)/) reason = "assembler-include"

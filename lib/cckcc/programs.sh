@@ -24,8 +24,8 @@ is_known() {
     esac
 }
 
-# Whether clang finds nothing of its own or of gcc below a directory but what is there now: no installation of gcc, and no link to
-# nothing in the place of a directory of libraries. Below /usr it may take one of gcc.
+# Whether clang finds no installation of gcc below a directory, and a new one there changes the status of a directory that is
+# tested: none is there, and no link to nothing is in the place of a directory of libraries. Below /usr there may be one.
 has_no_installation() {
     [ "$1" -ef /usr ] && return
     for cck_next in "$1"/lib "$1"/lib32 "$1"/lib64 "$1"/libx32 "$1"/lib*/gcc "$1"/lib*/gcc-cross; do
@@ -157,8 +157,8 @@ find_installations() {
     done
 }
 
-# Whether what is at the path of a program is none that may be executed, or a link on the way to it leads to nothing. Either may
-# become the program that a compiler runs, and the directory does not change.
+# Whether there is something at the path of a program that may not be executed, or a link on the way to it leads to nothing.
+# Either may become the program that a compiler runs, and no directory that is tested changes then.
 may_become_program() {
     if [ -f "$1" ] && [ -x "$1" ]; then return 1; fi
     [ -e "$1" ] || leads_nowhere "$1"

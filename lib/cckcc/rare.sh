@@ -30,8 +30,8 @@ find_native() {
     ) && export CCK_NATIVE || unset CCK_NATIVE
 }
 
-# Whether the compiler colours its messages in this terminal. clang asks the terminal's description, and that of the system has
-# colours for these names.
+# Whether the compiler colours its messages in this terminal. gcc does so in each one but `dumb`. clang asks the terminal's
+# description, and that of the system has colours for these names.
 has_colors() {
     case $TERM in
     linux|rxvt|screen|screen-256color|tmux|tmux-256color|xterm|xterm-256color)
@@ -43,7 +43,9 @@ has_colors() {
     case ${cck_compiler##*/} in
     *clang*) return 1 ;;
     esac
-    case $(readlink -f "$(command -v "$cck_compiler")") in
+    cck_next=$(readlink -f "$(command -v "$cck_compiler")")
+    case ${cck_next##*/} in
+    *clang*) return 1 ;;
     *gcc*|*g++*) ;;
     *) return 1 ;;
     esac

@@ -252,7 +252,7 @@ function add_parts(line) {
     }
 }
 
-# Keeps the name of such a macro, in each two parts.
+# Keeps each pair of parts of which the name of such a macro may be pasted together.
 function add_call(name, size) {
     if (name !~ /^[A-Za-z0-9_]*(has_include|HAS_INCLUDE)$/) reason = "header-test"
     for (size = 1; size < length(name); size++) {
@@ -268,5 +268,6 @@ function is_pasted(size) {
     return 0
 }
 
-# Whether a part may be in the sources: of those that have a part of its end all are kept.
+# Whether a part may be a word of the sources. Words are kept of lines that have a part of the end of such a name alone, so that
+# a part without one counts as a word that is there.
 function may_stand(word) { return word in parts || word !~ /HAS_|INCLUDE|has_|include/ }
