@@ -118,25 +118,40 @@ function read_search(line, size, words, at, name) {
     }
 }
 
-# Reads a line of the dependency file, which also has the headers that were passed over.
+# Reads a line of the dependency file, which also has the headers that were passed over. A tab in a name is not told from the
+# end of one.
 function read_rule(line, size, words, at) {
     sub(/ *\\$/, "", line)
     sub(/^listed: */, "", line)
-    if (line ~ /[\\$]/) reason = "other-file"
+    if (line ~ /[\\$\t]/) reason = "other-file"
     size = split(line, words, " ")
     for (at = 1; at <= size; at++) {
         passed[place_of(words[at])]
+        add_left(words[at])
         if (index(words[at], ".framework/")) reason = "other-file"
     }
 }
 
+# Keeps the directories that a name leaves by `..`.
+function add_left(name, at, size) {
+    for (at = 2; (size = index(substr(name, at), "/../")); at++) {
+        at += size - 1
+        if (substr(name, 1, at - 1) !~ /(^|\/)\.\.$/) left[substr(name, 1, at - 1)]
+    }
+}
+
 # Writes the places of the files of the text. A file that clang lists and did not enter was passed over by another name,
-# unless a test asks for it. Another one may be a link to a file of the text, or become one.
+# unless a test asks for it. Another one may be a link to a file of the text, or become one. Directories that names leave are
+# written too, with their places.
 function write_places(name, place) {
     for (name in projects) entered[place_of(name)]
     for (name in others) entered[place_of(name)]
     for (place in entered) print place > (ENVIRON["cck_scratch"] "/entered")
     for (place in passed) if (!(place in entered) && !is_asked(place)) reason = "other-file"
+    for (name in left) {
+        print name > (ENVIRON["cck_scratch"] "/left")
+        print place_of(name) > (ENVIRON["cck_scratch"] "/left-places")
+    }
 }
 
 # Whether a place is that of a header of clang itself that no directive names: then a test asks for it.

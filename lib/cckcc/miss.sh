@@ -583,6 +583,9 @@ has_room() {
     [ ! -s "$cck_scratch/messages" ] || lacks "$cck_scratch/" "$cck_scratch/messages"
 }
 
+# Prints a file, if it has anything.
+show() { [ ! -s "$1" ] || cat "$1" 2>/dev/null; }
+
 # Whether what the arguments include are regular files: a pipe can't be read by two.
 includes_files() {
     while [ $# -gt 0 ]; do
@@ -619,11 +622,13 @@ hold_object
 { compile_anew "$@" 2> "$cck_scratch/killed"; } 2>/dev/null
 cck_status=$? cck_signal=
 if [ $cck_status -gt 128 ] && [ -s "$cck_scratch/killed" ]; then cck_signal=$(kill -l $cck_status 2>/dev/null); fi
-# Where there was none the compiler runs again, as the call came: messages may be lost.
-if ! has_room; then wait; cck_found='no scratch'; pass_on "$@"; fi
-# The assembler writes standard output at its end.
-[ ! -s "$cck_scratch/messages" ] || cat "$cck_scratch/messages" >&2
-[ ! -s "$cck_scratch/output" ] || cat "$cck_scratch/output"
+# Where there was none the compiler runs again, as the call came: messages may be lost. So it does where they can't be written,
+# since a compiler may end by that. The assembler writes standard output at its end.
+if ! has_room || ! show "$cck_scratch/messages" >&2 || ! show "$cck_scratch/output"; then
+    wait
+    cck_found='no scratch'
+    pass_on "$@"
+fi
 wait
 cck_text=
 cck_refused=

@@ -76,6 +76,7 @@ list_lines() {
 # pragmas that save macros hide uses, and warnings may name others.
 judge_text() {
     true > "$cck_scratch/left-out"
+    true > "$cck_scratch/left"
     true > "$cck_scratch/ignored"
     list_lines
     cck_own=$cck_own cck_extended=$cck_extended cck_targets=$cck_targets cck_is_c=$cck_is_c cck_is_assembler=$cck_is_assembler \
@@ -86,8 +87,12 @@ judge_text() {
 
 # Refuses a text of clang of which two files are one, or may become one: clang knows a file by its inode, passes it over by that,
 # and names it as it was called last. So no two have one inode or the same contents, and none is reached by a link. The list of
-# files is sorted, and without `.` and `..`.
+# files is sorted, and without `.` and `..`, so no directory that a name leaves by `..` is reached by a link. Files of two names
+# are in no list of clang.
 judge_files() {
+    if [ -e '<stdin>' ] || [ -e '<built-in>' ]; then cck_refused=other-file; fi
+    [ ! -s "$cck_scratch/left" ] || xargs -d '\n' readlink -f -- < "$cck_scratch/left" | cmp -s - "$cck_scratch/left-places" ||
+        cck_refused=other-file
     sort "$cck_scratch/entered" > "$cck_scratch/names"
     xargs -d '\n' readlink -f -- < "$cck_scratch/names" | cmp -s - "$cck_scratch/names" || cck_refused=other-file
     xargs -d '\n' stat -c '%d:%i %s' -- < "$cck_scratch/names" > "$cck_scratch/sizes" || cck_refused=other-file
@@ -117,9 +122,9 @@ add_left_out() {
 
 # Sets what the arguments say beside the text: `cck_extended` if the call has OpenMP or OpenACC; `cck_targets` if an argument
 # may have the name of a builtin function of x86; and `cck_hidden` to why the compiler may read another text. The driver
-# hands no parameter to the preprocessor, and two are in macros. `cck_is_c` is empty in C++, where the compiler preprocesses
-# the whole text before it parses it: no declaration and no pragma of a target counts for the preprocessor. So it is for
-# assembler code, in which no test for a header is judged.
+# hands no parameter to the preprocessor, and two are in macros. With -undef the text of clang does not show the language.
+# `cck_is_c` is empty in C++, where the compiler preprocesses the whole text before it parses it: no declaration and no pragma of
+# a target counts for the preprocessor. So it is for assembler code, in which no test for a header is judged.
 judge_arguments() {
     cck_extended= cck_targets= cck_hidden= cck_is_c=1 cck_is_assembler= cck_is_clang=
     ! is_clang || cck_is_clang=1
@@ -133,6 +138,7 @@ judge_arguments() {
     esac
     case $cck_preprocessed in
     *structive-interference-size*) cck_hidden=other-file ;;
+    *-undef*) ! is_clang || cck_hidden=other-file ;;
     esac
 }
 

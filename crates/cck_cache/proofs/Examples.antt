@@ -1,6 +1,7 @@
 -- The definitions at literal values.
 use Rattle.std.proofs.Common.{◌≡◌, Some, codes, true, false, refl}
 use Rattle.cck_compiler.specs.declared.compiler.CCompilerKind.TheVariants.{Clang, Gcc}
+use Rattle.cck_cache.specs.Places.{has_room_beside}
 use Rattle.cck_cache.specs.Record.{Holds}
 use Rattle.cck_cache.specs.Request.{is_plusplus, kind_of, programs_for}
 
@@ -26,3 +27,10 @@ of_cplusplus = refl
 
 held : Holds (λ rule. rule ≡ codes "x.o: x.c") (Some (codes "x.o: x.c"))
 held = refl
+
+-- a percent sign counts in the directory alone
+percent_in_name : has_room_beside (codes "a/%b.o") ≡ true
+percent_in_name = refl
+
+percent_in_directory : has_room_beside (codes "%a/b.o") ≡ false
+percent_in_directory = refl

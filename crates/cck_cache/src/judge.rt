@@ -25,7 +25,7 @@ pub enum Passed {
     HeaderTest,
     /// A program that the compiler runs may read a file of arguments.
     ResponseFile,
-    /// A path is not UTF-8.
+    /// A path is not UTF-8, or that of the directory is not that of the working directory.
     Path,
     /// What is at the path of an output, or at that of the input, is not as a hit needs it.
     Output,

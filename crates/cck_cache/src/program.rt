@@ -20,7 +20,7 @@ use crate::unpack::{Taken, unpack};
 use crate::wanted::Look;
 use crate::why::print_why;
 use anyhow::{Context, Result, bail};
-use cck_cache_files::{Kind, Request, StoreDirectory, entry_name};
+use cck_cache_files::{Kind, Request, StoreDirectory, entry_name, is_working_directory};
 use cck_cache_options::{
     Action, CLANG, Call, Compilation, CompilerCall, Explanation, GCC, NATIVE, Outputs, Packed, Row,
     Server, Source, StoreAction, Task, rows_of, task_of,
@@ -355,7 +355,8 @@ fn outputs_of<'a>(paths: &'a CallPaths<'_>) -> Outputs<'a> {
     }
 }
 
-// Looks for an object, in the store or at the server, if one is asked, and prints what is found.
+// Looks for an object, in the store or at the server, if one is asked, and prints what is found. The call is passed on where the
+// path of the directory, by which files were looked at, is no longer that of the working directory.
 fn print_look<R: Files + AllocGlobal + Clone + Drop, S: Peer>(
     rt: &R,
     environment: &Environment<'_>,
@@ -365,6 +366,9 @@ fn print_look<R: Files + AllocGlobal + Clone + Drop, S: Peer>(
 ) -> Result<u8> {
     let store = store_in(rt, environment, wanted.store)?;
     let found = look(rt, environment, &store, wanted, peer)?;
+    if !is_working_directory(rt, wanted.request.directory) {
+        return print_passed(&mut printed.answer, Passed::Path);
+    }
     print_found(rt, environment, &store, wanted, &found, printed)
 }
 

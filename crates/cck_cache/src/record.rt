@@ -26,7 +26,8 @@ use c_cache_keys::{
 use cck_cache_files::{
     Absence, Kind, PathStates, Preprocessed, Request, StoreDirectory, Tested, TextStatuses,
     Unnamed, absence_of, add_directory_statuses, add_named_files, all_tests, compared_paths,
-    entry_name, links_of, may_have_copies, tested_by, text_statuses, unnamed_by,
+    entry_name, is_working_directory, links_of, may_have_copies, tested_by, text_statuses,
+    unnamed_by,
 };
 use cck_cache_options::{Compilation, Made};
 use cck_cache_rules::{
@@ -98,7 +99,8 @@ enum Seen {
     Refused(Refusal),
 }
 
-// What the system says of the input and of the files that a text names.
+// What the system says of the input and of the files that a text names. The paths are in doubt where that of the directory is no
+// longer that of the working directory.
 fn statuses_by<R: Files + AllocGlobal>(
     rt: &R,
     preprocessed: &Preprocessed<'_>,
@@ -109,7 +111,10 @@ fn statuses_by<R: Files + AllocGlobal>(
     let (request, text) = (preprocessed.request, preprocessed.text);
     let directory = request.directory.as_bytes();
     let paths = compared_paths(rt.alloc(), directory, request.input.as_bytes(), text)?;
-    let found = text_statuses(rt, preprocessed.since, &paths)?;
+    let mut found = text_statuses(rt, preprocessed.since, &paths)?;
+    if !is_working_directory(rt, request.directory) {
+        found.is_doubtful = true;
+    }
     Ok(found)
 }
 

@@ -1,5 +1,5 @@
 -- What is known of paths is as it was recorded.
-use Rattle.std.proofs.Common.{◌≡◌, ◌≢◌, ◌<◌, ◌∙◌, ℕ, List, [], ◌∷◌, ◌++◌, Bool, true, false, Some, None, cond, length, get_or, sym, ap, refl, subst, inl, inr, ⊎_elim, arith, BuildHasherDefault, FoldHasher}
+use Rattle.std.proofs.Common.{◌≡◌, ◌≢◌, ◌<◌, ◌∙◌, ℕ, List, [], true, false, Some, None, cond, length, get_or, sym, ap, refl, subst, inl, inr, ⊎_elim, arith, BuildHasherDefault, FoldHasher}
 use Rattle.std.proofs.lemmas.Bool.{cases_Bool}
 use Rattle.std.proofs.lemmas.Cmp.{nat_list_eq_equiv}
 use Rattle.std.proofs.lemmas.Slice.Eq.{bytes_eq-Decides}

@@ -79,7 +79,7 @@ pub use path_tests::first_failing;
 pub use preprocessed::Preprocessed;
 pub use programs::{KeptPrograms, SearchVariables, kept_programs};
 pub use read_once::has_copies;
-pub use real_paths::{LinkTests, link_tests, links_of};
+pub use real_paths::{LinkTests, is_working_directory, link_tests, links_of};
 pub use request::Request;
 pub use searched::SearchedDirectories;
 pub use snapshot::{add_file, add_named_files, is_one_file};

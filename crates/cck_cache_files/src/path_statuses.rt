@@ -96,8 +96,15 @@ fn add_status(
     Ok(())
 }
 
+// Whether a directory was found whose times tell when names came and went there. Those of the kernel's own file systems, which
+// have no size, do not.
+fn is_timed(found: &fs::Metadata) -> bool {
+    found.is_dir() && found.len() > 0
+}
+
 /// Adds the statuses of the directories of the paths of these tests at which there is nothing, or a file and no
-/// link. A directory in which a name may have come or gone at this time or later is left out.
+/// link. A directory in which a name may have come or gone at this time or later is left out, and so is one whose times do not
+/// tell.
 ///
 /// The only error is lack of memory.
 pub fn add_directory_statuses<R: Files + AllocGlobal>(
@@ -124,7 +131,9 @@ pub fn add_directory_statuses<R: Files + AllocGlobal>(
         }
         seen.insert(directory.to_vec(alloc)?)?;
         match found_at(rt, directory) {
-            Some(found) if found.is_dir() => add_status(alloc, statuses, directory, &found, since)?,
+            Some(found) if is_timed(&found) => add_status(
+                alloc, statuses, directory, &found, since,
+            )?,
             _ => {}
         }
     }

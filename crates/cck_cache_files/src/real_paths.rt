@@ -12,6 +12,7 @@ ghost use Rattle.cck_cache_text.specs.Sets.{has_key};
 ghost use Rattle.cck_cache_files.specs.RealPaths.{AreAbsentLinks, AreLinksOf, ArePlaced, GainsLink, GainsPlace, GainsReal, HasAbsent, HasReal, IsPathOf};
 ghost use Rattle.cck_path.specs.Bytes.{Bytes};
 
+use crate::identity::Identity;
 use crate::path_states::{PathStates, is_plain_file};
 use cck_cache_rules::PathTest;
 use cck_cache_text::directory_of;
@@ -66,6 +67,28 @@ pub fn leads_to<R: Files + AllocGlobal>(
     match fs::canonicalize(rt, text) {
         Ok(found) => Ok(found.as_str().as_bytes() == real),
         Err(_) => Ok(false),
+    }
+}
+
+/// Whether a path is that of the working directory. A compiler reads files from the working directory, and this program by the
+/// path of that. After a link on the way was turned, or a file system was mounted there, these are two directories; and where
+/// one directory is at two paths, the directories above it differ. `false` where that can't be known.
+pub fn is_working_directory<R: Files + AllocGlobal>(rt: &R, path: &str) -> bool {
+    let (Ok(own), Ok(found)) = (fs::metadata(rt, "."), fs::metadata(rt, path)) else {
+        return false;
+    };
+    if !Identity::of(&own).is(Identity::of(&found)) {
+        return false;
+    }
+    let Ok(real) = fs::canonicalize(rt, ".") else {
+        return false;
+    };
+    if real.as_str() == path {
+        return true;
+    }
+    match fs::canonicalize(rt, path) {
+        Ok(leads) => leads.as_str() == real.as_str(),
+        Err(_) => false,
     }
 }
 

@@ -8,7 +8,7 @@ use cck_cache_rules::is_day_old;
 use cck_path::Timestamp;
 use std::alloc::AllocError;
 use std::fs::{FileTimes, Metadata, OpenFile, OpenOptions};
-use std::io::{ErrorKind, Write};
+use std::io::{ErrorKind, Read, Write};
 use std::rt::Files;
 use std::{fs, io};
 
@@ -66,6 +66,18 @@ fn make_file<R: Files>(rt: &R, path: &str) -> io::Result<R::File> {
         }
         opened => opened,
     }
+}
+
+// The contents of a file of a store, read at once into room for its size. Nothing is written to such a file: another one takes
+// its place.
+fn read_whole<R: Files + AllocGlobal>(rt: &R, path: &str) -> io::Result<Vec<u8>> {
+    let mut file = fs::open(rt, path)?;
+    let Ok(size) = usize::try_from(file.metadata()?.len()) else {
+        return Err(io::Error::from(ErrorKind::FileTooLarge));
+    };
+    let mut contents = vec![in rt.alloc(); 0u8; size]?;
+    file.read_exact(&mut contents)?;
+    Ok(contents)
 }
 
 // Makes a store directory whose `VERSION` is not there, with that file alone.
@@ -167,7 +179,7 @@ impl StoreDirectory {
         key: &str,
     ) -> io::Result<Option<Vec<u8>>> {
         let path = self.path_of(rt, kind, key)?;
-        match fs::read(rt, path.as_str()) {
+        match read_whole(rt, path.as_str()) {
             Ok(bytes) => Ok(Some(bytes)),
             Err(error) if error.kind() == ErrorKind::NotFound => Ok(None),
             Err(error) => Err(error),

@@ -5,7 +5,7 @@ use Rattle.cck_digest.specs.Frames.{length_bytes}
 use Rattle.cck_include.specs.TimePart.{i64_bytes, u32_bytes}
 use Rattle.cck_cache_rules.specs.Age.{IsAbandoned}
 use Rattle.cck_cache_rules.specs.Checksum.{sums_of, words}
-use Rattle.cck_cache_rules.specs.FrontCoding.{front_coded}
+use Rattle.cck_cache_rules.specs.FrontCoding.{front_bytes, front_coded, short_length}
 use Rattle.cck_cache_rules.specs.ObjectName.{is_inside, object_parts, tests_inside, without_base}
 use Rattle.cck_cache_rules.specs.PathStatus.{status_bytes}
 use Rattle.cck_cache_rules.specs.PathTest.{Absent, File, Plain, Real, test_bytes}
@@ -128,3 +128,11 @@ a_compressed_value = refl
 -- nothing, a part and all of the text before is shared
 shared : front_coded [] (codes "absent /a" ∷ codes "absent /b" ∷ codes "file" ∷ codes "file" ∷ []) ≡ (0, codes "absent /a") ∷ (8, codes "b") ∷ (0, codes "file") ∷ (4, []) ∷ []
 shared = refl
+
+-- a number below 255 is one byte
+short : front_bytes (8, codes "b") ≡ 8 ∷ 1 ∷ codes "b"
+short = refl
+
+long : short_length 255 ≡ 255 ∷ 255 ∷ 0 ∷ 0 ∷ 0 ∷ 0 ∷ 0 ∷ 0 ∷ 0 ∷ []
+unfolding length_bytes
+long = refl

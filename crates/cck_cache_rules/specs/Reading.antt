@@ -1,4 +1,5 @@
 -- what bytes are read as
+use Rattle.std.specs.Borrow.{Bor}
 use Rattle.std.specs.Prelude.{◌≡◌, ℕ, List, [], ◌∷◌, ◌++◌, map, Option, Some, None, option_to_list}
 use Rattle.std.specs.Global.{Vec}
 
@@ -19,6 +20,10 @@ IsAny x = Unit {0}
 -- the bytes of each part
 abbrev pub byte_lists : Vec (Vec ℕ) → List (List ℕ)
 byte_lists parts = map (λ p. p.items) parts.items
+
+-- the same of parts that are lent
+abbrev pub lent_lists : Vec (Bor (List ℕ)) → List (List ℕ)
+lent_lists parts = map (λ p. p.now) parts.items
 
 -- What was read of these in order, each by itself. Those that are written for no value are passed.
 pub data AreRead {X Y : Type 0} (write : X → Y) : List Y → List X → Type 0 where

@@ -4,7 +4,7 @@ ghost use Rattle.std.specs.Option.{option_map};
 ghost use Rattle.cck_cache_rules.specs.PathStatus.{status_bytes, statuses_of};
 ghost use Rattle.cck_cache_rules.specs.Files.{IsEntryFile, entry_fields, entry_file, entry_parts};
 ghost use Rattle.cck_cache_rules.specs.PathTest.{test_bytes, tests_of};
-ghost use Rattle.cck_cache_rules.specs.Reading.{ReadsBackOf, byte_lists};
+ghost use Rattle.cck_cache_rules.specs.Reading.{ReadsBackOf, byte_lists, lent_lists};
 
 use crate::path_status::PathStatus;
 use crate::path_test::PathTest;
@@ -40,8 +40,8 @@ impl Drop for EntryFile {
 
 // What these parts say. `None` where there are fewer than two, where another one is no status and no
 // test, and where a status follows a test.
-fn file_of(alloc: Global, parts: Vec<Vec<u8>>) -> Result<Option<EntryFile>, AllocError>
-    ensures { IfOk result (λ found. ReadsBackOf IsEntryFile entry_parts (byte_lists parts) (option_map entry_fields found)) }
+fn file_of(alloc: Global, parts: Vec<&[u8]>) -> Result<Option<EntryFile>, AllocError>
+    ensures { IfOk result (λ found. ReadsBackOf IsEntryFile entry_parts (lent_lists parts.entry) (option_map entry_fields found)) }
 {
     let mut parts = parts.into_iter();
     let (Some(preprocessor_key), Some(entry)) = (parts.next(), parts.next()) else {
@@ -50,21 +50,21 @@ fn file_of(alloc: Global, parts: Vec<Vec<u8>>) -> Result<Option<EntryFile>, Allo
     let mut statuses = Vec::new(alloc);
     let mut tests = Vec::new(alloc);
     for part in parts {
-        if let Some(status) = PathStatus::read(alloc, &part)? {
+        if let Some(status) = PathStatus::read(alloc, part)? {
             if !tests.is_empty() {
                 return Ok(None);
             }
             statuses.push(status)?;
             continue;
         }
-        let Some(test) = PathTest::read(alloc, &part)? else {
+        let Some(test) = PathTest::read(alloc, part)? else {
             return Ok(None);
         };
         tests.push(test)?;
     }
     Ok(Some(EntryFile {
-        preprocessor_key,
-        entry,
+        preprocessor_key: preprocessor_key.to_vec(alloc)?,
+        entry: entry.to_vec(alloc)?,
         statuses,
         tests,
     }))

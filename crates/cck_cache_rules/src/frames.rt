@@ -4,7 +4,7 @@ ghost use Rattle.std.specs.List.{flat_map};
 ghost use Rattle.std.specs.Option.{option_map};
 ghost use Rattle.cck_digest.specs.Frames.{frame, length_bytes};
 ghost use Rattle.cck_cache_rules.specs.Frames.{frame_before};
-ghost use Rattle.cck_cache_rules.specs.Reading.{ReadsBack, byte_lists};
+ghost use Rattle.cck_cache_rules.specs.Reading.{ReadsBack, lent_lists};
 
 use std::alloc::{AllocError, Global};
 
@@ -50,8 +50,8 @@ pub fn read_frame(bytes: &[u8]) -> Option<(&[u8], &[u8])>
 }
 
 /// The bytes of all frames, of which these bytes consist. `None` where they do not.
-pub fn read_frames(alloc: Global, bytes: &[u8]) -> Result<Option<Vec<Vec<u8>>>, AllocError>
-    ensures { IfOk result (λ found. ReadsBack (flat_map frame) bytes.now (option_map byte_lists found)) }
+pub fn read_frames<'a>(alloc: Global, bytes: &'a [u8]) -> Result<Option<Vec<&'a [u8]>>, AllocError>
+    ensures { IfOk result (λ found. ReadsBack (flat_map frame) bytes.now (option_map lent_lists found)) }
 {
     let mut all = Vec::new(alloc);
     let mut rest = bytes;
@@ -59,7 +59,7 @@ pub fn read_frames(alloc: Global, bytes: &[u8]) -> Result<Option<Vec<Vec<u8>>>, 
         let Some((frame, after)) = read_frame(rest) else {
             return Ok(None);
         };
-        all.push(frame.to_vec(alloc)?)?;
+        all.push(frame)?;
         rest = after;
     }
     Ok(Some(all))

@@ -2,7 +2,7 @@
 ghost use Rattle.std.specs.Prelude.{◌≡◌, IfOk};
 ghost use Rattle.std.specs.Option.{option_map};
 ghost use Rattle.cck_cache_rules.specs.Files.{object_fields, object_file, object_parts};
-ghost use Rattle.cck_cache_rules.specs.Reading.{ReadsBack, byte_lists};
+ghost use Rattle.cck_cache_rules.specs.Reading.{ReadsBack, lent_lists};
 
 use crate::stored::{read_stored, write_stored};
 use std::alloc::{AllocError, Global};
@@ -34,8 +34,8 @@ impl Drop for ObjectFile {
 }
 
 // What these parts say. `None` where there are not four.
-fn file_of(parts: Vec<Vec<u8>>) -> Option<ObjectFile>
-    ensures { ReadsBack object_parts (byte_lists parts) (option_map object_fields result) }
+fn file_of(alloc: Global, parts: Vec<&[u8]>) -> Result<Option<ObjectFile>, AllocError>
+    ensures { IfOk result (λ found. ReadsBack object_parts (lent_lists parts.entry) (option_map object_fields found)) }
 {
     let mut parts = parts.into_iter();
     let (Some(key), Some(object), Some(messages), Some(dependencies), None) = (
@@ -45,14 +45,14 @@ fn file_of(parts: Vec<Vec<u8>>) -> Option<ObjectFile>
         parts.next(),
         parts.next(),
     ) else {
-        return None;
+        return Ok(None);
     };
-    Some(ObjectFile {
-        key,
-        object,
-        messages,
-        dependencies,
-    })
+    Ok(Some(ObjectFile {
+        key: key.to_vec(alloc)?,
+        object: object.to_vec(alloc)?,
+        messages: messages.to_vec(alloc)?,
+        dependencies: dependencies.to_vec(alloc)?,
+    }))
 }
 
 impl ObjectFile {
@@ -75,6 +75,6 @@ impl ObjectFile {
         let Some(parts) = read_stored(alloc, KIND, bytes)? else {
             return Ok(None);
         };
-        Ok(file_of(parts))
+        file_of(alloc, parts)
     }
 }

@@ -66,7 +66,9 @@ impl Drop for PathTest {
 pub(crate) fn joined(alloc: Global, front: &[u8], rest: &[u8]) -> Result<Vec<u8>, AllocError>
     ensures { IfOk result (λ all. all.items ≡ front.now ++ rest.now) }
 {
-    let mut all = front.to_vec(alloc)?;
+    let mut all = Vec::new(alloc);
+    all.reserve(front.len().saturating_add(rest.len()))?;
+    all.extend_from_slice(front)?;
     all.extend_from_slice(rest)?;
     Ok(all)
 }

@@ -1,7 +1,7 @@
 //! The bytes of a file of the store: its kind, a checksum of the frames, and frames.
 ghost use Rattle.std.specs.Prelude.{◌≡◌, IfOk, map};
 ghost use Rattle.std.specs.Option.{option_map};
-ghost use Rattle.cck_cache_rules.specs.Reading.{ReadsBack, byte_lists};
+ghost use Rattle.cck_cache_rules.specs.Reading.{ReadsBack, lent_lists};
 ghost use Rattle.cck_cache_rules.specs.Stored.{IsCut, stored_file};
 
 use crate::checksum::checksum;
@@ -45,12 +45,12 @@ pub(crate) fn cut_stored<'a>(kind: &[u8], bytes: &'a [u8]) -> Option<(&'a [u8], 
 /// The parts of a file of this kind. `None` where these are not the bytes of one.
 ///
 /// The only error is lack of memory.
-pub fn read_stored(
+pub fn read_stored<'a>(
     alloc: Global,
     kind: &[u8],
-    bytes: &[u8],
-) -> Result<Option<Vec<Vec<u8>>>, AllocError>
-    ensures { IfOk result (λ found. ReadsBack (stored_file kind.now) bytes.now (option_map byte_lists found)) }
+    bytes: &'a [u8],
+) -> Result<Option<Vec<&'a [u8]>>, AllocError>
+    ensures { IfOk result (λ found. ReadsBack (stored_file kind.now) bytes.now (option_map lent_lists found)) }
 {
     let Some((written, frames)) = cut_stored(kind, bytes) else {
         return Ok(None);

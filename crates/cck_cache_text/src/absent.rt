@@ -33,7 +33,9 @@ fn within<'a>(name: &'a [u8], directory: &[u8]) -> Option<&'a [u8]>
 pub fn joined(alloc: Global, a: &[u8], b: &[u8], c: &[u8]) -> Result<Vec<u8>, AllocError>
     ensures { IfOk result (λ all. all.items ≡ a.now ++ b.now ++ c.now) }
 {
-    let mut all = a.to_vec(alloc)?;
+    let mut all = Vec::new(alloc);
+    all.reserve(a.len().saturating_add(b.len()).saturating_add(c.len()))?;
+    all.extend_from_slice(a)?;
     all.extend_from_slice(b)?;
     all.extend_from_slice(c)?;
     Ok(all)

@@ -2,9 +2,9 @@ use Rattle.std.proofs.Common.{◌≡◌, ℕ, List, [], ◌∷◌, ◌++◌, ◌
 use Rattle.std.specs.List.{common_prefix_len, flat_map}
 use Rattle.std.proofs.Math.Seq.{take-length}
 use Rattle.std.proofs.lemmas.List.{length-drop, length-map, map_push, take_all, take_more}
-use Rattle.cck_digest.specs.Frames.{frame, length_bytes}
+use Rattle.cck_digest.specs.Frames.{length_bytes}
 use Rattle.cck_cache_rules.proofs.FrontCodingLemmas.{front_bytes_more, front_coded_length, last_more, last_of}
-use Rattle.cck_cache_rules.specs.FrontCoding.{front_bytes, front_coded}
+use Rattle.cck_cache_rules.specs.FrontCoding.{front_bytes, front_coded, short_frame, short_length}
 use Rattle.cck_path.specs.Bytes.{lists_of}
 use Rattle.cck_cache_rules.proofs.front_coding.hash_front_coded.Goals as goal
 
@@ -23,9 +23,9 @@ loop-text-preserved g c =
     take_all _ (drop n c.deref-in-loop-text.result.now) (omega (arith, length-drop n c.deref-in-loop-text.result.now)) in
     record {
       fed = λ fed h.
-          let after = c.hash_len_prefixed.ensures _ (c.hash_length-in-loop-text.ensures _ (c.loop-text.invariant.fed fed h)) in
-          subst (λ (bytes : List ℕ). g.H.HashState.holds c.hash_len_prefixed.new.digest bytes)
-          (ap (λ (t : List ℕ). (((fed ++ flat_map front_bytes (front_coded [] done)) ++ length_bytes n) ++ frame t)) (whole ∙ ap (λ (t : List ℕ). drop n t) c.deref-in-loop-text.ensures.value)
+          let after = c.hash_short_frame.ensures _ (c.hash_short_length.ensures _ (c.loop-text.invariant.fed fed h)) in
+          subst (λ (bytes : List ℕ). g.H.HashState.holds c.hash_short_frame.new.digest bytes)
+          (ap (λ (t : List ℕ). (((fed ++ flat_map front_bytes (front_coded [] done)) ++ short_length n) ++ short_frame t)) (whole ∙ ap (λ (t : List ℕ). drop n t) c.deref-in-loop-text.ensures.value)
           ∙ front_bytes_more fed done before text.items n c.loop-text.invariant.last is
           ∙ ap (λ all. fed ++ flat_map front_bytes (front_coded [] all)) (sym more))
           after;

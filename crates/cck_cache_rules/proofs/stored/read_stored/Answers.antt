@@ -1,7 +1,7 @@
 use Rattle.std.proofs.Common.{sym, ◌∙◌}
 use Rattle.std.specs.Option.{option_map}
 use Rattle.std.proofs.lemmas.Result.{IfOk-weaker}
-use Rattle.cck_cache_rules.specs.Reading.{byte_lists}
+use Rattle.cck_cache_rules.specs.Reading.{lent_lists}
 use Rattle.cck_cache_rules.proofs.ReadingLemmas.{differ, equal}
 use Rattle.cck_cache_rules.proofs.StoredLemmas.{not_cut, other_checksum, whole_file}
 use Rattle.cck_cache_rules.proofs.stored.read_stored.Goals as goal
@@ -21,6 +21,6 @@ returns c =
     let written = c.in-Some.written.now in
     let same = equal c.as_flattened.result.now written c.if-ne.ensures in
     IfOk-weaker c.read_frames.result _ _
-    (λ found read. whole_file c.args.kind.now c.args.bytes.now written c.in-Some.frames.now (option_map byte_lists found) c.in-Some.ensures.0 c.in-Some.ensures.1
+    (λ found read. whole_file c.args.kind.now c.args.bytes.now written c.in-Some.frames.now (option_map lent_lists found) c.in-Some.ensures.0 c.in-Some.ensures.1
     (sym c.checksum-sums.ensures ∙ (sym c.as_flattened.ensures.value ∙ same)) read)
     c.read_frames.ensures

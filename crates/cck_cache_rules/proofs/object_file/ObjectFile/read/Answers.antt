@@ -1,7 +1,8 @@
 use Rattle.std.proofs.Common.{codes}
 use Rattle.std.specs.Option.{option_map}
+use Rattle.std.proofs.lemmas.Result.{IfOk-weaker}
 use Rattle.cck_cache_rules.specs.Files.{object_fields, object_file, object_parts}
-use Rattle.cck_cache_rules.specs.Reading.{IsAny, byte_lists}
+use Rattle.cck_cache_rules.specs.Reading.{IsAny, lent_lists}
 use Rattle.cck_cache_rules.specs.Stored.{stored_file}
 use Rattle.cck_cache_rules.proofs.ReadingLemmas.{from_any, of_any, read_twice}
 use Rattle.cck_cache_rules.proofs.object_file.ObjectFile.read.Goals as goal
@@ -13,7 +14,9 @@ returns-in_default c =
 
 pub returns : goal.returns
 returns c =
-    let found = option_map object_fields c.file_of.result in
     let kind = codes "cck object 4\n" in
-    from_any object_file c.args.bytes.now found
-    (read_twice IsAny (stored_file kind) object_parts c.args.bytes.now (byte_lists c.in-Some.parts) found (rw c.in-Some.is at c.in_ok-parts.ensures) (of_any object_parts (byte_lists c.in-Some.parts) found c.file_of.ensures))
+    IfOk-weaker c.file_of.result _ _
+    (λ found read. from_any object_file c.args.bytes.now (option_map object_fields found)
+    (read_twice IsAny (stored_file kind) object_parts c.args.bytes.now (lent_lists c.in-Some.parts) (option_map object_fields found) (rw c.in-Some.is at c.in_ok-parts.ensures)
+    (of_any object_parts (lent_lists c.in-Some.parts) (option_map object_fields found) read)))
+    c.file_of.ensures
