@@ -558,6 +558,23 @@ made_object() {
     esac
 }
 
+# Whether the dependency file may be that of this call, and not of another one that ran at the same time: its first target has
+# the name of the object, where no argument names one.
+has_target() {
+    [ -n "$cck_dependencies" ] || return 0
+    case " $* " in
+    *' -M'[QT]*|*' -Wp,'*) return 0 ;;
+    esac
+    case $cck_out in
+    *[!A-Za-z0-9_./+-]*) return 0 ;;
+    esac
+    IFS= read -r cck_line 2>/dev/null < "$cck_dependencies"
+    case $cck_line in
+    *"${cck_out##*/}:"*) ;;
+    *) return 1 ;;
+    esac
+}
+
 # Whether the object has no code for another device: sections for one have random names.
 has_plain_names() {
     case " $* " in
@@ -639,7 +656,7 @@ if [ -s "$cck_scratch/messages" ] && [ "$cck_status:$cck_refused:$cck_macros" = 
 fi
 # What an assembler prints there is not kept, nor a message that names a temporary file.
 [ ! -s "$cck_scratch/output" ] || cck_refused=output
-made_object || cck_refused=output
+made_object && has_target "$@" || cck_refused=output
 if [ -s "$cck_scratch/messages" ] && ! lacks '/cc[A-Za-z0-9]\{6\}\.s' "$cck_scratch/messages"; then
     cck_refused=temporary-name
 fi
