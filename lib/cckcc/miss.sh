@@ -570,7 +570,7 @@ has_target() {
     esac
     IFS= read -r cck_line 2>/dev/null < "$cck_dependencies"
     case $cck_line in
-    *"${cck_out##*/}:"*) ;;
+    "${cck_out##*/}:"*|*/"${cck_out##*/}:"*) ;;
     *) return 1 ;;
     esac
 }

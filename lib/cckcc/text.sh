@@ -87,8 +87,8 @@ judge_text() {
 
 # Refuses a text of clang of which two files are one, or may become one: clang knows a file by its inode, passes it over by that,
 # and names it as it was called last. So no two have one inode or the same contents, and none is reached by a link. The list of
-# files is sorted, and without `.` and `..`, so no directory that a name leaves by `..` is reached by a link. Files of two names
-# are in no list of clang.
+# files is sorted, and without `.` and `..`, so no directory that a name leaves by `..` is reached by a link. Files
+# `<stdin>` and `<built-in>` are not in clang's list.
 judge_files() {
     if [ -e '<stdin>' ] || [ -e '<built-in>' ]; then cck_refused=other-file; fi
     [ ! -s "$cck_scratch/left" ] || xargs -d '\n' readlink -f -- < "$cck_scratch/left" | cmp -s - "$cck_scratch/left-places" ||
